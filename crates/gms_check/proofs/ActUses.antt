@@ -25,7 +25,7 @@ use Rattle.gms_ast.specs.TreeView.{control_tree, tree_of}
 use Rattle.gms_store.specs.State.{State}
 use Rattle.gms_check.specs.Contexts.{as_side}
 use Rattle.gms_check.specs.InnerStatements.{act_uses}
-use Rattle.gms_check.specs.StatementUses.{UsesOfAct, UsesOfStatement, act_uses_step, index_list, left_uses, option_uses, right_standing, show_uses, statement_uses_step, statement_uses, with_left}
+use Rattle.gms_check.specs.StatementUses.{UsesOfAct, UsesOfStatement, act_uses_step, index_list, left_uses, option_uses, right_context, show_uses, statement_uses_step, statement_uses, with_left}
 use Rattle.gms_check.specs.Uses.{Uses, assigning, condition_uses, control_uses, defining, first_alias, method, optimizing, second_alias, sets_of_control, solving, uses}
 
 module _ {F : Type 0} where
@@ -47,7 +47,7 @@ module _ {F : Type 0} (state : State) (at : Place) (controlled : List ℕ) where
   uses-Alias first second =
       ap (λ (act : Act F). act_uses act state at controlled) (sym (rolls-Alias first second)) ∙ ap (λ (f : UsesOfAct F). f state at controlled) (fold-roll-Act F (UsesOfAct F) (UsesOfStatement F) act_uses_step statement_uses_step (Act-F.Alias first second))
 
-  pub uses-Assign : (target : Target F) (condition : Option (Expr F)) (right_at : Place) (right : Expr F) → act_uses (Assign target condition right_at (Value right)) state at controlled ≡ (target.at, assigning target.name target.suffix (index_list target.indices)) ∷ (left_uses at (with_left controlled target.indices) target.indices condition ++ uses (right_standing state target.name) right_at (with_left controlled target.indices) (tree_of right))
+  pub uses-Assign : (target : Target F) (condition : Option (Expr F)) (right_at : Place) (right : Expr F) → act_uses (Assign target condition right_at (Value right)) state at controlled ≡ (target.at, assigning target.name target.suffix (index_list target.indices)) ∷ (left_uses at (with_left controlled target.indices) target.indices condition ++ uses (right_context state target.name) right_at (with_left controlled target.indices) (tree_of right))
   uses-Assign target condition right_at right =
       ap (λ (act : Act F). act_uses act state at controlled) (sym (rolls-Assign target condition right_at (Value right))) ∙ ap (λ (f : UsesOfAct F). f state at controlled) (fold-roll-Act F (UsesOfAct F) (UsesOfStatement F) act_uses_step statement_uses_step (Act-F.Assign target condition right_at (Value right)))
 

@@ -118,13 +118,13 @@ grows-fold f each (x ∷ xs) s = grows-both s (f s x) (fold f (f s x) xs) (each 
 
 -- A content after another: it stands for the same, with the same members.
 record IsAlike (old new : Content) : Type 0 where
-  behind_same : (n : ℕ) → alias_target n new ≡ alias_target n old
+  after_same : (n : ℕ) → alias_target n new ≡ alias_target n old
   members : members_in new ≡ members_in old
   declared : is_undeclared new ≡ is_undeclared old
   same_kind : kind_in new ≡ kind_in old
 
 alike-itself : (c : Content) → IsAlike c c
-alike-itself c = record { behind_same = λ n. refl; members = refl; declared = refl; same_kind = refl }
+alike-itself c = record { after_same = λ n. refl; members = refl; declared = refl; same_kind = refl }
 
 grows-alike : (s : Symbol) (new : Content) → IsAlike s.content new → GrowsTo s (with_content s new)
 grows-alike s new alike fits = (
@@ -135,12 +135,12 @@ grows-alike s new alike fits = (
   },
   elim (later-itself s) [
     | inl none ↦ inl none
-    | inr after ↦ inr (record { domain = refl; alike = alike.behind_same; declared = alike.declared ∙ after.declared; same_kind = alike.same_kind })
+    | inr after ↦ inr (record { domain = refl; alike = alike.after_same; declared = alike.declared ∙ after.declared; same_kind = alike.same_kind })
   ],
 )
 
 alike-variables : (old new : VariableType) (some none : Entries Attributes) → IsAlike (variable_of old some) (variable_of new none)
-alike-variables old new some none = record { behind_same = λ n. refl; members = refl; declared = refl; same_kind = refl }
+alike-variables old new some none = record { after_same = λ n. refl; members = refl; declared = refl; same_kind = refl }
 
 alike-free : (entries : Entries Attributes) (later : Content) → IsAlike (variable_of type.Free entries) (retyped (variable_of type.Free entries) later)
 alike-free entries undeclared = alike-itself (variable_of type.Free entries)
@@ -297,7 +297,7 @@ alike-value : (c : Content) (t : List ℕ) (x : extended.Extended) → IsAlike c
 alike-value undeclared t x = alike-itself undeclared
 alike-value (alias_of base) t x = alike-itself (alias_of base)
 alike-value (set_of members) t x = alike-itself (set_of members)
-alike-value (parameter_of values) t x = record { behind_same = λ n. refl; members = refl; declared = refl; same_kind = refl }
+alike-value (parameter_of values) t x = record { after_same = λ n. refl; members = refl; declared = refl; same_kind = refl }
 alike-value (variable_of type entries) t x = alike-itself (variable_of type entries)
 alike-value (equation_of others) t x = alike-itself (equation_of others)
 alike-value (model_with m s) t x = alike-itself (model_with m s)

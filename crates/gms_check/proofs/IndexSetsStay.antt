@@ -107,20 +107,20 @@ module _ {F : Type 0} (value : F → Number) (program : Program F) where
       (grows-past value (sound before) blank n (blank-fits (length program.names) n)).0
 
   grows-on : (before : List (Stmt F)) (statement : Stmt F) → FollowsIn program before statement → Grows (before_state before) (loaded value program)
-  grows-on before statement stands =
-      let rest : List (Stmt F) = statement ∷ stands.0 in
+  grows-on before statement occurs =
+      let rest : List (Stmt F) = statement ∷ occurs.0 in
       let blank = blank_state (length program.names) in
-      subst (Grows (before_state before)) (sym (ap (λ (all : List (Stmt F)). fold (after_statement value) blank (sound all)) stands.1 ∙ ap (fold (after_statement value) blank) (map-append (λ statement. (statement, true)) before rest) ∙ fold-append (after_statement value) blank (sound before) (sound rest))) (grows-past value (sound rest) (before_state before))
+      subst (Grows (before_state before)) (sym (ap (λ (all : List (Stmt F)). fold (after_statement value) blank (sound all)) occurs.1 ∙ ap (fold (after_statement value) blank) (map-append (λ statement. (statement, true)) before rest) ∙ fold-append (after_statement value) blank (sound before) (sound rest))) (grows-past value (sound rest) (before_state before))
 
   -- an index set before a statement is one when the program begins
   pub index-set-loaded : (before : List (Stmt F)) (statement : Stmt F) → FollowsIn program before statement → (set : ℕ) → is_index_set (before_state before) set ≡ true → IsOverOne (loaded value program) set
-  index-set-loaded before statement stands set is =
-      stays-one (before_state before) (loaded value program) (fits-before before) (grows-on before statement stands) set is
+  index-set-loaded before statement occurs set is =
+      stays-one (before_state before) (loaded value program) (fits-before before) (grows-on before statement occurs) set is
 
   -- a name that is declared before a statement comes after itself when the program begins
   after-itself : (before : List (Stmt F)) (statement : Stmt F) → FollowsIn program before statement → (name : ℕ) → is_undeclared (symbol_at (before_state before) name).content ≡ false → IsAfter (symbol_at (before_state before) name) (symbol_at (loaded value program) name)
-  after-itself before statement stands name declared =
-      by (grows-on before statement stands name (fits-before before name)).1
+  after-itself before statement occurs name declared =
+      by (grows-on before statement occurs name (fits-before before name)).1
     where
       by : IsLater (symbol_at (before_state before) name) (symbol_at (loaded value program) name) → IsAfter (symbol_at (before_state before) name) (symbol_at (loaded value program) name)
       by (inl none) = absurd (let no : true ≡ false = sym none ∙ declared in cc)
@@ -128,16 +128,16 @@ module _ {F : Type 0} (value : F → Number) (program : Program F) where
 
   -- so it is of the same kind then, over the same domain
   pub kind-loaded : (before : List (Stmt F)) (statement : Stmt F) → FollowsIn program before statement → (name : ℕ) → is_undeclared (symbol_at (before_state before) name).content ≡ false → declared_kind (loaded value program) name ≡ declared_kind (before_state before) name
-  kind-loaded before statement stands name declared = (after-itself before statement stands name declared).same_kind
+  kind-loaded before statement occurs name declared = (after-itself before statement occurs name declared).same_kind
 
   pub domain-loaded : (before : List (Stmt F)) (statement : Stmt F) → FollowsIn program before statement → (name : ℕ) → is_undeclared (symbol_at (before_state before) name).content ≡ false → (symbol_at (loaded value program) name).domain ≡ (symbol_at (before_state before) name).domain
-  domain-loaded before statement stands name declared = (after-itself before statement stands name declared).domain
+  domain-loaded before statement occurs name declared = (after-itself before statement occurs name declared).domain
 
   -- and it is a variable exactly where it is one when the program begins
   pub variable-loaded : (before : List (Stmt F)) (statement : Stmt F) → FollowsIn program before statement → (name : ℕ) → is_undeclared (symbol_at (before_state before) name).content ≡ false → is_variable (symbol_at (loaded value program) name).content ≡ is_variable (symbol_at (before_state before) name).content
-  variable-loaded before statement stands name declared =
+  variable-loaded before statement occurs name declared =
       by-kind (symbol_at (loaded value program) name).content
-      ∙ ap is_variable_kind (kind-loaded before statement stands name declared)
+      ∙ ap is_variable_kind (kind-loaded before statement occurs name declared)
       ∙ sym (by-kind (symbol_at (before_state before) name).content)
 
   -- and each name has members in order, with a label for each of its positions

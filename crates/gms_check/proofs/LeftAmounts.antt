@@ -31,7 +31,7 @@ use Rattle.gms_check.specs.Names.{is_variable}
 use Rattle.gms_check.specs.Past.{Known}
 use Rattle.gms_check.specs.Contexts.{as_number, may_be_assigned}
 use Rattle.gms_check.specs.InnerStatements.{act_uses}
-use Rattle.gms_check.specs.StatementUses.{index_list, left_uses, right_standing, statement_uses, with_left}
+use Rattle.gms_check.specs.StatementUses.{index_list, left_uses, right_context, statement_uses, with_left}
 use Rattle.gms_check.specs.Uses.{condition_uses, control_uses, index_sets, sets_of_control, shift_uses, uses}
 use Rattle.gms_check.proofs.ActUses.{uses-Assign, uses-Loop, uses-act}
 use Rattle.gms_check.proofs.NoErrors.{AreClean, clean-left, clean-right}
@@ -85,7 +85,7 @@ module _ {F : Type 0} (known : Known F) where
   assigned-left statement controlled target condition right_at right is clean =
       let inside = with_left controlled target.indices in
       let whole = subst (AreClean known) (uses-act statement known.state controlled ∙ ap (λ (act : Act F). act_uses act known.state statement.at controlled) is ∙ uses-Assign known.state statement.at controlled target condition right_at right) clean in
-      let left = clean-left known (left_uses statement.at inside target.indices condition) (uses (right_standing known.state target.name) right_at inside (tree_of right)) whole.1 in
+      let left = clean-left known (left_uses statement.at inside target.indices condition) (uses (right_context known.state target.name) right_at inside (tree_of right)) whole.1 in
       left-indices inside (index_list target.indices) (neither-second (not (may_be_assigned (declared_kind known.state target.name) target.suffix)) (has_wrong_set known (index_sets (index_list target.indices))) (whole.0 WrongKind)) (clean-left known (shift_uses inside (index_list target.indices)) (condition_uses statement.at inside (option_map tree_of condition)) left)
 
   -- one of the statements of a body
@@ -103,15 +103,15 @@ module _ {F : Type 0} (known : Known F) where
       let sets = controlled ++ sets_of_control (control_tree inside.control) in
       let whole = subst (AreClean known) (uses-act outer known.state controlled ∙ ap (λ (act : Act F). act_uses act known.state outer.at controlled) inside.loop ∙ uses-Loop known.state outer.at controlled inside.control inside.body) clean in
       let body = clean-right known (control_uses outer.at controlled (control_tree inside.control)) (flat_map (λ (s : Stmt F). statement_uses s known.state sets) inside.body.items) whole in
-      inner-clean depth inside.next inner sets inside.holds (clean-one_of sets inside.before inside.rest inside.next (subst (λ (statements : List (Stmt F)). AreClean known (flat_map (λ (s : Stmt F). statement_uses s known.state sets) statements)) inside.stands body))
+      inner-clean depth inside.next inner sets inside.holds (clean-one_of sets inside.before inside.rest inside.next (subst (λ (statements : List (Stmt F)). AreClean known (flat_map (λ (s : Stmt F). statement_uses s known.state sets) statements)) inside.occurs body))
 
 module _ {F : Type 0} (value : F → Number) where
   pub program-inner : (program : Program F) (solvers : List (List ℕ)) (before : List (Stmt F)) (outer inner : Stmt F) (depth : ℕ) → compile_errors value program solvers ≡ [] → FollowsIn program before outer → IsNestedIn depth inner outer → (sets : List ℕ) × AreClean (known_after value program solvers (sound before)) (statement_uses inner (known_after value program solvers (sound before)).state sets)
-  program-inner program solvers before outer inner depth none stands inside =
+  program-inner program solvers before outer inner depth none occurs inside =
       let known = known_after value program solvers (sound before) in
-      inner-clean known depth outer inner [] inside (statement-clean known outer (after-sound value program solvers before [] outer stands.0 (sym (ap (errors_after value program solvers []) stands.1) ∙ none)))
+      inner-clean known depth outer inner [] inside (statement-clean known outer (after-sound value program solvers before [] outer occurs.0 (sym (ap (errors_after value program solvers []) occurs.1) ∙ none)))
 
   pub program-left : (program : Program F) (solvers : List (List ℕ)) (before : List (Stmt F)) (outer inner : Stmt F) (depth : ℕ) (target : Target F) (condition : Option (Expr F)) (right_at : Place) (right : Expr F) → compile_errors value program solvers ≡ [] → FollowsIn program before outer → IsNestedIn depth inner outer → inner.act ≡ Assign target condition right_at (Value right) → AreTargetIndices (known_after value program solvers (sound before)).state (index_list target.indices)
-  program-left program solvers before outer inner depth target condition right_at right none stands inside is =
-      let one = program-inner program solvers before outer inner depth none stands inside in
+  program-left program solvers before outer inner depth target condition right_at right none occurs inside is =
+      let one = program-inner program solvers before outer inner depth none occurs inside in
       assigned-left (known_after value program solvers (sound before)) inner one.0 target condition right_at right is one.1

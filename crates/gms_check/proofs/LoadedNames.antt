@@ -247,10 +247,10 @@ module _ {F : Type 0} (value : F → Number) (program : Program F) (accepted : I
   count = length program.names
 
   -- what is known after some of its statements
-  abbrev known_behind_all : List (Stmt F) → Known F
-  known_behind_all before = known_after value program accepted.0 (sound before)
+  abbrev known_after_all : List (Stmt F) → Known F
+  known_after_all before = known_after value program accepted.0 (sound before)
 
-  error-none : (before rest : List (Stmt F)) (statement : Stmt F) → program.statements.items ≡ before ++ statement ∷ rest → statement_error (known_behind_all before) statement ≡ None
+  error-none : (before rest : List (Stmt F)) (statement : Stmt F) → program.statements.items ≡ before ++ statement ∷ rest → statement_error (known_after_all before) statement ≡ None
   error-none before rest statement is =
       after-sound value program accepted.0 before [] statement rest (sym (ap (λ (statements : List (Stmt F)). errors_after value program accepted.0 [] statements) is) ∙ accepted.1)
 
@@ -259,7 +259,7 @@ module _ {F : Type 0} (value : F → Number) (program : Program F) (accepted : I
       ap (state_after value count) (map-append {B = Stmt F × Bool} (λ (statement : Stmt F). (statement, true)) before (statement ∷ [])) ∙ fold-append (after_statement value) (blank_state count) (sound before) ((statement, true) ∷ [])
 
   -- the statements from here on keep what holds of a name
-  traversal : (n : ℕ) (P : Symbol → Type 0) → ((before : List (Stmt F)) (statement : Stmt F) → FollowsIn program before statement → statement_error (known_behind_all before) statement ≡ None → P (symbol_at (state_after value count (sound before)) n) → P (symbol_at (after_act value (state_after value count (sound before)) statement.act) n)) → (before rest : List (Stmt F)) → program.statements.items ≡ before ++ rest → P (symbol_at (state_after value count (sound before)) n) → P (symbol_at (loaded value program) n)
+  traversal : (n : ℕ) (P : Symbol → Type 0) → ((before : List (Stmt F)) (statement : Stmt F) → FollowsIn program before statement → statement_error (known_after_all before) statement ≡ None → P (symbol_at (state_after value count (sound before)) n) → P (symbol_at (after_act value (state_after value count (sound before)) statement.act) n)) → (before rest : List (Stmt F)) → program.statements.items ≡ before ++ rest → P (symbol_at (state_after value count (sound before)) n) → P (symbol_at (loaded value program) n)
   traversal n P step before [] is p =
       subst (λ (statements : List (Stmt F)). P (symbol_at (state_after value count (sound statements)) n)) (sym (is ∙ append-nil before)) p
   traversal n P step before (statement ∷ rest) is p =
@@ -272,7 +272,7 @@ module _ {F : Type 0} (value : F → Number) (program : Program F) (accepted : I
   size-traversal before done rest is size (statement ∷ prefix) following parts =
       let whole : program.statements.items ≡ before ++ statement ∷ (prefix ++ following) = is ∙ ap (λ xs. before ++ xs) parts in
       sym (ap (λ (statements : List (Stmt F)). length (state_after value count (sound statements)).symbols) (append_assoc before (statement ∷ []) prefix))
-      ∙ size-traversal (before ++ statement ∷ []) done (prefix ++ following) (whole ∙ sym (append_assoc before (statement ∷ []) (prefix ++ following))) (ap (λ (state : State). length state.symbols) (state-then before statement) ∙ size-act (known_behind_all before) statement (error-none before (prefix ++ following) statement whole) ∙ size) prefix following refl
+      ∙ size-traversal (before ++ statement ∷ []) done (prefix ++ following) (whole ∙ sym (append_assoc before (statement ∷ []) (prefix ++ following))) (ap (λ (state : State). length state.symbols) (state-then before statement) ∙ size-act (known_after_all before) statement (error-none before (prefix ++ following) statement whole) ∙ size) prefix following refl
 
   size-after : (before rest : List (Stmt F)) → program.statements.items ≡ before ++ rest → length (state_after value count (sound before)).symbols ≡ count
   size-after before rest is =
@@ -280,9 +280,9 @@ module _ {F : Type 0} (value : F → Number) (program : Program F) (accepted : I
 
   -- a property of a name that is kept by all that the program declares holds at its end
   module _ (n : ℕ) (P : Symbol → Type 0) (Of : DeclKind → Decl F → Type 0) (Named : ℕ → Type 0) (kept : IsKept F n P Of Named) (those : (kind : DeclKind) (item : Decl F) → Declares program kind item → Of kind item) (all : (before : List (Stmt F)) (statement : Stmt F) → FollowsIn program before statement → AllNamed Named (names_declared statement.act)) where
-    step-keeps : (before : List (Stmt F)) (statement : Stmt F) → FollowsIn program before statement → statement_error (known_behind_all before) statement ≡ None → P (symbol_at (state_after value count (sound before)) n) → P (symbol_at (after_act value (state_after value count (sound before)) statement.act) n)
-    step-keeps before statement stands none p =
-        act-keeps n P Of Named kept (known_behind_all before) statement none (λ kind first rest item is. those kind item (record { before = before; statement = statement; stands = stands; first = first; rest = rest; act = is })) (all before statement stands) p
+    step-keeps : (before : List (Stmt F)) (statement : Stmt F) → FollowsIn program before statement → statement_error (known_after_all before) statement ≡ None → P (symbol_at (state_after value count (sound before)) n) → P (symbol_at (after_act value (state_after value count (sound before)) statement.act) n)
+    step-keeps before statement occurs none p =
+        act-keeps n P Of Named kept (known_after_all before) statement none (λ kind first rest item is. those kind item (record { before = before; statement = statement; occurs = occurs; first = first; rest = rest; act = is })) (all before statement occurs) p
 
     keeps-all : P no_symbol → P (symbol_at (loaded value program) n)
     keeps-all p = traversal n P step-keeps [] program.statements.items refl (subst P (sym (blank-at count n)) p)
@@ -290,31 +290,31 @@ module _ {F : Type 0} (value : F → Number) (program : Program F) (accepted : I
     -- from a declaration on
     keeps-from : (kind : DeclKind) (item : Decl F) (d : Declares program kind item) → P (symbol_at (with_item value kind (fold (with_item value kind) (state_after value count (sound d.before)) d.first) item) n) → P (symbol_at (loaded value program) n)
     keeps-from kind item d p =
-        let known = known_behind_all d.before in
-        let none = error-none d.before d.stands.0 d.statement d.stands.1 in
+        let known = known_after_all d.before in
+        let none = error-none d.before d.occurs.0 d.statement d.occurs.1 in
         let errors = declaration-clean known d.statement kind (d.first ++ item ∷ d.rest) d.act none in
         let here = known_later kind known d.first in
         let next = next-known kind here item d.rest (following-items kind known d.first (item ∷ d.rest) errors) in
-        let last = items-keep n P Of Named kept kind (known_later kind here (item ∷ [])) d.rest next.1 (λ first rest other is. those kind other (record { before = d.before; statement = d.statement; stands = d.stands; first = d.first ++ item ∷ first; rest = rest; act = d.act ∙ ap (λ (xs : List (Decl F)). Declare kind xs) (ap (λ xs. d.first ++ item ∷ xs) is ∙ sym (append_assoc d.first (item ∷ first) (other ∷ rest))) })) p in
-        traversal n P step-keeps (d.before ++ d.statement ∷ []) d.stands.0 (d.stands.1 ∙ sym (append_assoc d.before (d.statement ∷ []) d.stands.0)) (subst (λ (state : State). P (symbol_at state n)) (sym (state-then d.before d.statement ∙ ap (after_act value known.state) d.act ∙ fold-append (with_item value kind) known.state d.first (item ∷ d.rest))) last)
+        let last = items-keep n P Of Named kept kind (known_later kind here (item ∷ [])) d.rest next.1 (λ first rest other is. those kind other (record { before = d.before; statement = d.statement; occurs = d.occurs; first = d.first ++ item ∷ first; rest = rest; act = d.act ∙ ap (λ (xs : List (Decl F)). Declare kind xs) (ap (λ xs. d.first ++ item ∷ xs) is ∙ sym (append_assoc d.first (item ∷ first) (other ∷ rest))) })) p in
+        traversal n P step-keeps (d.before ++ d.statement ∷ []) d.occurs.0 (d.occurs.1 ∙ sym (append_assoc d.before (d.statement ∷ []) d.occurs.0)) (subst (λ (state : State). P (symbol_at state n)) (sym (state-then d.before d.statement ∙ ap (after_act value known.state) d.act ∙ fold-append (with_item value kind) known.state d.first (item ∷ d.rest))) last)
 
   -- ---- the name of a declaration
 
   module _ (kind : DeclKind) (item : Decl F) (d : Declares program kind item) (within : item.named.name < count) where
     abbrev before_it : Known F
-    before_it = known_later kind (known_behind_all d.before) d.first
+    before_it = known_later kind (known_after_all d.before) d.first
 
-    errors-none : declaration_errors (known_behind_all d.before) kind (d.first ++ item ∷ d.rest) ≡ []
+    errors-none : declaration_errors (known_after_all d.before) kind (d.first ++ item ∷ d.rest) ≡ []
     errors-none =
-        declaration-clean (known_behind_all d.before) d.statement kind (d.first ++ item ∷ d.rest) d.act (error-none d.before d.stands.0 d.statement d.stands.1)
+        declaration-clean (known_after_all d.before) d.statement kind (d.first ++ item ∷ d.rest) d.act (error-none d.before d.occurs.0 d.statement d.occurs.1)
 
     is-clean : AreClean before_it (item_uses before_it kind item)
     is-clean =
-        (next-known kind before_it item d.rest (following-items kind (known_behind_all d.before) d.first (item ∷ d.rest) errors-none)).0
+        (next-known kind before_it item d.rest (following-items kind (known_after_all d.before) d.first (item ∷ d.rest) errors-none)).0
 
     is-within : nat_lt item.named.name (length before_it.state.symbols) ≡ true
     is-within =
-        ap (nat_lt item.named.name) (size-prefix kind (known_behind_all d.before) d.first (item ∷ d.rest) errors-none ∙ size-after d.before (d.statement ∷ d.stands.0) d.stands.1) ∙ is-less item.named.name count within
+        ap (nat_lt item.named.name) (size-prefix kind (known_after_all d.before) d.first (item ∷ d.rest) errors-none ∙ size-after d.before (d.statement ∷ d.occurs.0) d.occurs.1) ∙ is-less item.named.name count within
 
     -- its data
     abbrev own_data : ExpandedData F
@@ -342,7 +342,7 @@ module _ {F : Type 0} (value : F → Number) (program : Program F) (accepted : I
     -- what is settled stays to the end
     settled-all : is_undeclared made.content ≡ false → is_free made.content ≡ false → symbol_at (loaded value program) item.named.name ≡ made
     settled-all old fixed =
-        keeps-from item.named.name (λ s. s ≡ made) (λ kind item. Unit {0}) (λ m. Unit {0}) (settled F item.named.name made old fixed) (λ kind item d. tt) (λ before statement stands. all-named (names_declared statement.act)) kind item d made-here
+        keeps-from item.named.name (λ s. s ≡ made) (λ kind item. Unit {0}) (λ m. Unit {0}) (settled F item.named.name made old fixed) (λ kind item d. tt) (λ before statement occurs. all-named (names_declared statement.act)) kind item d made-here
 
     settled-as : (s : Symbol) → made ≡ s → is_undeclared s.content ≡ false → is_free s.content ≡ false → symbol_at (loaded value program) item.named.name ≡ s
     settled-as s is old fixed =
@@ -373,7 +373,7 @@ module _ {F : Type 0} (value : F → Number) (program : Program F) (accepted : I
 
     as-free : type_of kind ≡ Some type.Free → IsFree program item.named.name → (symbol_at (loaded value program) item.named.name).content ≡ variable_of type.Free finite.empty
     as-free is free =
-        keeps-from item.named.name (λ s. s.content ≡ variable_of type.Free finite.empty) (λ kind other. other.named.name ≡ item.named.name → type_of kind ≡ Some type.Free) (λ m. Unit {0}) (free-kept F item.named.name) (λ kind other d. free kind other d) (λ before statement stands. all-named (names_declared statement.act)) kind item d (ap (λ (s : Symbol). s.content) made-here ∙ made-type type.Free is)
+        keeps-from item.named.name (λ s. s.content ≡ variable_of type.Free finite.empty) (λ kind other. other.named.name ≡ item.named.name → type_of kind ≡ Some type.Free) (λ m. Unit {0}) (free-kept F item.named.name) (λ kind other d. free kind other d) (λ before statement occurs. all-named (names_declared statement.act)) kind item d (ap (λ (s : Symbol). s.content) made-here ∙ made-type type.Free is)
 
     as-variable : (t : VariableType) → type_of kind ≡ Some t → (t ≡ type.Free → IsFree program item.named.name) → (symbol_at (loaded value program) item.named.name).content ≡ variable_of t finite.empty
     as-variable type.Free is free = as-free is (free refl)
@@ -466,6 +466,6 @@ module _ {F : Type 0} (value : F → Number) where
   pub undeclared-loaded : (program : Program F) (name : ℕ) → IsAccepted value program → IsUndeclared program name → symbol_at (loaded value program) name ≡ no_symbol
   undeclared-loaded program name accepted none =
       keeps-all value program accepted name (λ s. s ≡ no_symbol) (λ kind item. name ≢ item.named.name) (λ m. name ≢ m) (absent-kept F name)
-      (λ kind item d. not-named kind item d.first d.rest name (sym (ap (λ (act : Act F). is_among (names_declared act) name) d.act) ∙ none d.before d.statement d.stands))
-      (λ before statement stands. all-apart name (names_declared statement.act) (none before statement stands))
+      (λ kind item d. not-named kind item d.first d.rest name (sym (ap (λ (act : Act F). is_among (names_declared act) name) d.act) ∙ none d.before d.statement d.occurs))
+      (λ before statement occurs. all-apart name (names_declared statement.act) (none before statement occurs))
       refl

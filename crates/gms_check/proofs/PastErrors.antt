@@ -32,8 +32,8 @@ use Rattle.gms_check.specs.Uses.{Uses, listing}
 use Rattle.gms_check.proofs.NoErrors.{AreClean, are-clean}
 use Rattle.gms_check.proofs.Outlines.{base-drawn, bounds-drawn, drawn, index-drawn, kind-drawn, positions-drawn, read-at}
 use Rattle.gms_check.proofs.KnownFacts.{in_table, is_equation_in}
-use Rattle.gms_check.proofs.PastFacts.{Stands, listed_in, stands-first}
-use Rattle.gms_check.proofs.PastSteps.{AreEquations, AreOfEquations, IsListed, stands-after}
+use Rattle.gms_check.proofs.PastFacts.{Occurs, listed_in, occurs-first}
+use Rattle.gms_check.proofs.PastSteps.{AreEquations, AreOfEquations, IsListed, occurs-after}
 
 -- ---- models without errors are of equations
 
@@ -109,7 +109,7 @@ module _ {F : Type 0} (value : F → Number) (program : Program F) (solvers : Li
       record { value = value; state = state; declared = declared; above = above; assigned = assigned; unordered = unordered; defined = defined; models = models; solvers = solvers }
 
   -- what a check knows is what is known after these statements
-  pub known-same : (facts : Facts) (past : Past F) → Stands value program facts past → known_by value solvers facts ≡ known_after value program solvers past
+  pub known-same : (facts : Facts) (past : Past F) → Occurs value program facts past → known_by value solvers facts ≡ known_after value program solvers past
   known-same facts past s =
       let state = state_after value (length program.names) past in
       let declared = names_before program past in
@@ -136,17 +136,17 @@ module _ {F : Type 0} (value : F → Number) (solvers : List (List ℕ)) where
   each_from facts (statement ∷ rest) =
       error_after facts statement ∷ each_from (facts_after value facts statement.act (is_none (error_after facts statement))) rest
 
-  pub each-same : (program : Program F) (statements : List (Stmt F)) (facts : Facts) (past : Past F) → Stands value program facts past → each_from facts statements ≡ each_error value program solvers past statements
-  each-same program [] facts past stands = refl
-  each-same program (statement ∷ rest) facts past stands =
+  pub each-same : (program : Program F) (statements : List (Stmt F)) (facts : Facts) (past : Past F) → Occurs value program facts past → each_from facts statements ≡ each_error value program solvers past statements
+  each-same program [] facts past occurs = refl
+  each-same program (statement ∷ rest) facts past occurs =
       let sound = is_none (error_after facts statement) in
-      let next = stands-after value program facts past stands statement sound (listed-sound value (known_by value solvers facts) statement) in
+      let next = occurs-after value program facts past occurs statement sound (listed-sound value (known_by value solvers facts) statement) in
       ap (λ (errors : List (Option CompileError)). error_after facts statement ∷ errors) (each-same program rest (facts_after value facts statement.act sound) (past ++ (statement, sound) ∷ []) next)
-      ∙ ap (λ (known : Known F). statement_error known statement ∷ each_error value program solvers (past ++ (statement, is_none (statement_error known statement)) ∷ []) rest) (known-same value program solvers facts past stands)
+      ∙ ap (λ (known : Known F). statement_error known statement ∷ each_error value program solvers (past ++ (statement, is_none (statement_error known statement)) ∷ []) rest) (known-same value program solvers facts past occurs)
 
   -- the error of each statement of a program
   pub each-all : (program : Program F) → each_from (first_facts program) program.statements.items ≡ statement_errors value program solvers
-  each-all program = each-same program program.statements.items (first_facts program) [] (stands-first value program)
+  each-all program = each-same program program.statements.items (first_facts program) [] (occurs-first value program)
 
   -- one statement more: its error is put last
   pub each-step : (statements : List (Stmt F)) (i : ℕ) (statement : Stmt F) (found after : List (Option CompileError)) (facts next : Facts) (error : Option CompileError) (all : List (Option CompileError)) → i < length statements → statement ≡ get_or statements i statement → error ≡ error_after facts statement → next ≡ facts_after value facts statement.act (is_none error) → after ≡ found ++ error ∷ [] → found ++ each_from facts (drop i statements) ≡ all → after ++ each_from next (drop (i + 1) statements) ≡ all

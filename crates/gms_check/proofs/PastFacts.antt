@@ -134,7 +134,7 @@ listed-grows count a b keep (m ∷ ms) s = by (in_table count m.0) (listed-grows
 
 module _ {F : Type 0} (value : F → Number) (program : Program F) where
   -- What is known is what these statements of a program make.
-  pub record Stands (facts : Facts) (past : Past F) : Type 0 where
+  pub record Occurs (facts : Facts) (past : Past F) : Type 0 where
     pub state : facts.state ≡ state_after value (length program.names) past
     pub known : IsKnown (length program.names) (drawn facts.state) facts.declared
     pub named : names facts ≡ names_before program past
@@ -153,8 +153,8 @@ module _ {F : Type 0} (value : F → Number) (program : Program F) where
       at-drawn (blank_state (length program.names)) n ∙ ap outline (read-at (replicate (length program.names) no_symbol) n ∙ default-replicate (length program.names) n no_symbol)
 
   -- before the first statement
-  pub stands-first : Stands (first_facts program) []
-  stands-first = record {
+  pub occurs-first : Occurs (first_facts program) []
+  occurs-first = record {
     state = refl;
     known = record {
       size = length-map (replicate (length program.names) no_symbol) outline ∙ length-replicate (length program.names) no_symbol;
@@ -179,25 +179,25 @@ module _ {F : Type 0} (value : F → Number) (program : Program F) where
       nothing false = refl
 
   -- one statement more
-  module _ (facts after : Facts) (past : Past F) (stands : Stands facts past) (p : Stmt F × Bool) where
-    pub stands-more : after.state ≡ after_statement value facts.state p → FactsGo (length program.names) facts after (names_declared p.0.act) (equations_declared p.0.act) → after.dynamic ≡ facts.dynamic → length after.unordered ≡ length program.names → ((n : ℕ) → marked after.unordered n ≡ (marked facts.unordered n || (nat_lt n (length program.names) && (p.1 && gives_unordered n p.0.act)))) → length after.defined ≡ length program.names → ((n : ℕ) → marked after.defined n ≡ (marked facts.defined n || (nat_lt n (length program.names) && defines n p.0.act))) → after.models ≡ facts.models ++ listed_in (length program.names) (drawn after.state) (models_declared_by (equations_before past) p.1 p.0.act) → AreFixed (length program.names) (drawn after.state) (models_declared_by (equations_before past) p.1 p.0.act) → Stands after (past ++ p ∷ [])
-    stands-more state go dynamic unordered_size unordered defined_size defined models fixed = record {
-      state = state ∙ ap (λ (s : State). after_statement value s p) stands.state ∙ sym (fold-append (after_statement value) (blank_state (length program.names)) past (p ∷ []));
+  module _ (facts after : Facts) (past : Past F) (occurs : Occurs facts past) (p : Stmt F × Bool) where
+    pub occurs-more : after.state ≡ after_statement value facts.state p → FactsGo (length program.names) facts after (names_declared p.0.act) (equations_declared p.0.act) → after.dynamic ≡ facts.dynamic → length after.unordered ≡ length program.names → ((n : ℕ) → marked after.unordered n ≡ (marked facts.unordered n || (nat_lt n (length program.names) && (p.1 && gives_unordered n p.0.act)))) → length after.defined ≡ length program.names → ((n : ℕ) → marked after.defined n ≡ (marked facts.defined n || (nat_lt n (length program.names) && defines n p.0.act))) → after.models ≡ facts.models ++ listed_in (length program.names) (drawn after.state) (models_declared_by (equations_before past) p.1 p.0.act) → AreFixed (length program.names) (drawn after.state) (models_declared_by (equations_before past) p.1 p.0.act) → Occurs after (past ++ p ∷ [])
+    occurs-more state go dynamic unordered_size unordered defined_size defined models fixed = record {
+      state = state ∙ ap (λ (s : State). after_statement value s p) occurs.state ∙ sym (fold-append (after_statement value) (blank_state (length program.names)) past (p ∷ []));
       known = go.known;
-      named = go.named ∙ ap (λ ns. ns ++ filter (in_table (length program.names)) (names_declared p.0.act)) stands.named ∙ sym (ap (filter (in_table (length program.names))) (flat_map-append (λ (p : Stmt F × Bool). names_declared p.0.act) past (p ∷ []) ∙ ap (λ ns. declared_names past ++ ns) (append-nil (names_declared p.0.act))) ∙ filter-append (in_table (length program.names)) (declared_names past) (names_declared p.0.act));
-      dynamic = λ n. ap (λ (ms : List Bool). marked ms n) dynamic ∙ stands.dynamic n;
+      named = go.named ∙ ap (λ ns. ns ++ filter (in_table (length program.names)) (names_declared p.0.act)) occurs.named ∙ sym (ap (filter (in_table (length program.names))) (flat_map-append (λ (p : Stmt F × Bool). names_declared p.0.act) past (p ∷ []) ∙ ap (λ ns. declared_names past ++ ns) (append-nil (names_declared p.0.act))) ∙ filter-append (in_table (length program.names)) (declared_names past) (names_declared p.0.act));
+      dynamic = λ n. ap (λ (ms : List Bool). marked ms n) dynamic ∙ occurs.dynamic n;
       unordered_size = unordered_size;
-      unordered = λ n. unordered n ∙ ap (λ b. b || (nat_lt n (length program.names) && (p.1 && gives_unordered n p.0.act))) (stands.unordered n) ∙ and-or (nat_lt n (length program.names)) (is_unordered past n) (p.1 && gives_unordered n p.0.act) ∙ ap (λ b. nat_lt n (length program.names) && b) (sym (list_any-append (λ (p : Stmt F × Bool). p.1 && gives_unordered n p.0.act) past (p ∷ []) ∙ ap (λ b. is_unordered past n || b) (or-false (p.1 && gives_unordered n p.0.act))));
+      unordered = λ n. unordered n ∙ ap (λ b. b || (nat_lt n (length program.names) && (p.1 && gives_unordered n p.0.act))) (occurs.unordered n) ∙ and-or (nat_lt n (length program.names)) (is_unordered past n) (p.1 && gives_unordered n p.0.act) ∙ ap (λ b. nat_lt n (length program.names) && b) (sym (list_any-append (λ (p : Stmt F × Bool). p.1 && gives_unordered n p.0.act) past (p ∷ []) ∙ ap (λ b. is_unordered past n || b) (or-false (p.1 && gives_unordered n p.0.act))));
       defined_size = defined_size;
-      defined = λ n. defined n ∙ ap (λ b. b || (nat_lt n (length program.names) && defines n p.0.act)) (stands.defined n) ∙ and-or (nat_lt n (length program.names)) (is_defined past n) (defines n p.0.act) ∙ ap (λ b. nat_lt n (length program.names) && b) (sym (list_any-append (λ (p : Stmt F × Bool). defines n p.0.act) past (p ∷ []) ∙ ap (λ b. is_defined past n || b) (or-false (defines n p.0.act))));
-      equations = go.equated ∙ ap (λ es. es ++ filter (is_equation_in (drawn after.state)) (equations_declared p.0.act)) (stands.equations ∙ sym (keep (equations_before past) stands.settled)) ∙ sym (ap (filter (is_equation_in (drawn after.state))) equations ∙ filter-append (is_equation_in (drawn after.state)) (equations_before past) (equations_declared p.0.act));
-      settled = subst (AreSettled (length program.names) (drawn after.state)) (sym equations) (settled-append (length program.names) (drawn after.state) (equations_before past) (equations_declared p.0.act) (settled-grows (length program.names) (drawn facts.state) (drawn after.state) go.grows (equations_before past) stands.settled) go.settled);
-      models = models ∙ ap (λ ms. ms ++ listed_in (length program.names) (drawn after.state) (models_declared_by (equations_before past) p.1 p.0.act)) (stands.models ∙ sym (listed-grows (length program.names) (drawn facts.state) (drawn after.state) keep (models_after [] past) stands.fixed)) ∙ sym (ap (listed_in (length program.names) (drawn after.state)) (models-push [] past p) ∙ listed-append (length program.names) (drawn after.state) (models_after [] past) (models_declared_by (equations_before past) p.1 p.0.act));
-      fixed = subst (AreFixed (length program.names) (drawn after.state)) (sym (models-push [] past p)) (fixed-append (length program.names) (drawn after.state) (models_after [] past) (models_declared_by (equations_before past) p.1 p.0.act) (fixed-grows (length program.names) (drawn facts.state) (drawn after.state) go.grows (models_after [] past) stands.fixed) fixed);
+      defined = λ n. defined n ∙ ap (λ b. b || (nat_lt n (length program.names) && defines n p.0.act)) (occurs.defined n) ∙ and-or (nat_lt n (length program.names)) (is_defined past n) (defines n p.0.act) ∙ ap (λ b. nat_lt n (length program.names) && b) (sym (list_any-append (λ (p : Stmt F × Bool). defines n p.0.act) past (p ∷ []) ∙ ap (λ b. is_defined past n || b) (or-false (defines n p.0.act))));
+      equations = go.equated ∙ ap (λ es. es ++ filter (is_equation_in (drawn after.state)) (equations_declared p.0.act)) (occurs.equations ∙ sym (keep (equations_before past) occurs.settled)) ∙ sym (ap (filter (is_equation_in (drawn after.state))) equations ∙ filter-append (is_equation_in (drawn after.state)) (equations_before past) (equations_declared p.0.act));
+      settled = subst (AreSettled (length program.names) (drawn after.state)) (sym equations) (settled-append (length program.names) (drawn after.state) (equations_before past) (equations_declared p.0.act) (settled-grows (length program.names) (drawn facts.state) (drawn after.state) go.grows (equations_before past) occurs.settled) go.settled);
+      models = models ∙ ap (λ ms. ms ++ listed_in (length program.names) (drawn after.state) (models_declared_by (equations_before past) p.1 p.0.act)) (occurs.models ∙ sym (listed-grows (length program.names) (drawn facts.state) (drawn after.state) keep (models_after [] past) occurs.fixed)) ∙ sym (ap (listed_in (length program.names) (drawn after.state)) (models-push [] past p) ∙ listed-append (length program.names) (drawn after.state) (models_after [] past) (models_declared_by (equations_before past) p.1 p.0.act));
+      fixed = subst (AreFixed (length program.names) (drawn after.state)) (sym (models-push [] past p)) (fixed-append (length program.names) (drawn after.state) (models_after [] past) (models_declared_by (equations_before past) p.1 p.0.act) (fixed-grows (length program.names) (drawn facts.state) (drawn after.state) go.grows (models_after [] past) occurs.fixed) fixed);
     }
       where
         keep : (ns : List ℕ) → AreSettled (length program.names) (drawn facts.state) ns → filter (is_equation_in (drawn after.state)) ns ≡ filter (is_equation_in (drawn facts.state)) ns
-        keep ns s = kept-equations (length program.names) (drawn facts.state) (drawn after.state) facts.declared after.declared stands.known go.known go.grows ns s
+        keep ns s = kept-equations (length program.names) (drawn facts.state) (drawn after.state) facts.declared after.declared occurs.known go.known go.grows ns s
 
         equations : equations_before (past ++ p ∷ []) ≡ equations_before past ++ equations_declared p.0.act
         equations = flat_map-append (λ (p : Stmt F × Bool). equations_declared p.0.act) past (p ∷ []) ∙ ap (λ ns. equations_before past ++ ns) (append-nil (equations_declared p.0.act))

@@ -40,7 +40,7 @@ use Rattle.gms_check.proofs.NoErrors.{AreClean, are-clean}
 use Rattle.gms_check.proofs.Outlines.{base-drawn, bounds-drawn, drawn, index-drawn, kind-drawn, positions-drawn, read-at}
 use Rattle.gms_check.proofs.KnownNames.{IsKnown}
 use Rattle.gms_check.proofs.KnownFacts.{AreSettled, FactsGo, Grows, alias-goes, equation_names, goes-none, in_table, is_equation_in, item_names, items-go, items-keeps, kept-equations, model_names-keeps, models-go, settled-grows}
-use Rattle.gms_check.proofs.PastFacts.{AreFixed, Stands, equations_before, listed_in, mark-one, stands-more}
+use Rattle.gms_check.proofs.PastFacts.{AreFixed, Occurs, equations_before, listed_in, mark-one, occurs-more}
 
 -- ---- tests
 
@@ -267,7 +267,7 @@ module _ {F : Type 0} (value : F → Number) where
       pub models : after.models ≡ facts.models ++ listed_in (length program.names) (drawn after.state) (models_declared_by (equations_before past) sound act)
       pub fixed : AreFixed (length program.names) (drawn after.state) (models_declared_by (equations_before past) sound act)
 
-    module _ (facts : Facts) (past : Past F) (stands : Stands value program facts past) where
+    module _ (facts : Facts) (past : Past F) (occurs : Occurs value program facts past) where
       unmarked-order : (sound : Bool) (n : ℕ) → marked facts.unordered n ≡ (marked facts.unordered n || (nat_lt n (length program.names) && (sound && false)))
       unmarked-order sound n =
           unmarked (marked facts.unordered n) (nat_lt n (length program.names)) ∙ ap (λ b. marked facts.unordered n || (nat_lt n (length program.names) && b)) (sym (and-false sound))
@@ -276,11 +276,11 @@ module _ {F : Type 0} (value : F → Number) where
       step-none : (act : Act F) (sound : Bool) → facts.state ≡ state_by facts.state act sound → names_declared act ≡ [] → equations_declared act ≡ [] → ((n : ℕ) → gives_unordered n act ≡ false) → ((n : ℕ) → defines n act ≡ false) → models_declared_by (equations_before past) sound act ≡ [] → Step facts facts past act sound
       step-none act sound state none_named none_equated none_turned none_defined none_modelled = record {
         state = state;
-        go = subst (λ (ns : List ℕ). FactsGo (length program.names) facts facts ns (equations_declared act)) (sym none_named) (subst (λ (es : List ℕ). FactsGo (length program.names) facts facts [] es) (sym none_equated) (goes-none (length program.names) (drawn facts.state) facts.declared facts.equations stands.known));
+        go = subst (λ (ns : List ℕ). FactsGo (length program.names) facts facts ns (equations_declared act)) (sym none_named) (subst (λ (es : List ℕ). FactsGo (length program.names) facts facts [] es) (sym none_equated) (goes-none (length program.names) (drawn facts.state) facts.declared facts.equations occurs.known));
         dynamic = refl;
-        unordered_size = stands.unordered_size;
+        unordered_size = occurs.unordered_size;
         unordered = λ n. unmarked-order sound n ∙ ap (λ b. marked facts.unordered n || (nat_lt n (length program.names) && (sound && b))) (sym (none_turned n));
-        defined_size = stands.defined_size;
+        defined_size = occurs.defined_size;
         defined = λ n. unmarked (marked facts.defined n) (nat_lt n (length program.names)) ∙ ap (λ b. marked facts.defined n || (nat_lt n (length program.names) && b)) (sym (none_defined n));
         models = sym (append-nil facts.models) ∙ ap (λ (ms : List (ℕ × List ℕ)). facts.models ++ listed_in (length program.names) (drawn facts.state) ms) (sym none_modelled);
         fixed = subst (AreFixed (length program.names) (drawn facts.state)) (sym none_modelled) tt;
@@ -291,14 +291,14 @@ module _ {F : Type 0} (value : F → Number) where
       step-declare kind items false =
           let after = after_items value kind false facts items in
           let keeps = items-keeps value kind false items facts in
-          let go = items-go value (length program.names) kind false items facts stands.known stands.defined_size in
+          let go = items-go value (length program.names) kind false items facts occurs.known occurs.defined_size in
           record {
             state = names-only kind items facts;
             go = subst (λ (es : List ℕ). FactsGo (length program.names) facts after (item_names value items) es) (sym (kind-equations kind items)) go;
             dynamic = keeps.dynamic;
-            unordered_size = ap length keeps.unordered ∙ stands.unordered_size;
+            unordered_size = ap length keeps.unordered ∙ occurs.unordered_size;
             unordered = λ n. ap (λ (ms : List Bool). marked ms n) keeps.unordered ∙ unmarked-order false n;
-            defined_size = ap length keeps.defined ∙ stands.defined_size;
+            defined_size = ap length keeps.defined ∙ occurs.defined_size;
             defined = λ n. ap (λ (ms : List Bool). marked ms n) keeps.defined ∙ unmarked (marked facts.defined n) (nat_lt n (length program.names));
             models = keeps.models ∙ sym (append-nil facts.models);
             fixed = tt;
@@ -308,14 +308,14 @@ module _ {F : Type 0} (value : F → Number) where
           let after = with_order kind given items in
           let same = order-same kind given items in
           let keeps = items-keeps value kind true items facts in
-          let go = items-go value (length program.names) kind true items facts stands.known stands.defined_size in
+          let go = items-go value (length program.names) kind true items facts occurs.known occurs.defined_size in
           record {
             state = ap (λ (f : Facts). f.state) same ∙ items-state kind items facts;
             go = subst (λ (es : List ℕ). FactsGo (length program.names) facts after (item_names value items) es) (sym (kind-equations kind items)) (subst (λ (f : Facts). FactsGo (length program.names) facts f (item_names value items) (equation_names kind (item_names value items))) (sym same) go);
             dynamic = ap (λ (f : Facts). f.dynamic) same ∙ keeps.dynamic;
-            unordered_size = order-length kind given items ∙ ap length keeps.unordered ∙ stands.unordered_size;
-            unordered = λ n. order-marked n kind given items ∙ ap (λ (ms : List Bool). marked ms n || (nat_lt n (length ms) && gives_unordered n (Declare kind items))) keeps.unordered ∙ ap (λ (k : ℕ). marked facts.unordered n || (nat_lt n k && gives_unordered n (Declare kind items))) stands.unordered_size;
-            defined_size = ap (λ (f : Facts). length f.defined) same ∙ ap length keeps.defined ∙ stands.defined_size;
+            unordered_size = order-length kind given items ∙ ap length keeps.unordered ∙ occurs.unordered_size;
+            unordered = λ n. order-marked n kind given items ∙ ap (λ (ms : List Bool). marked ms n || (nat_lt n (length ms) && gives_unordered n (Declare kind items))) keeps.unordered ∙ ap (λ (k : ℕ). marked facts.unordered n || (nat_lt n k && gives_unordered n (Declare kind items))) occurs.unordered_size;
+            defined_size = ap (λ (f : Facts). length f.defined) same ∙ ap length keeps.defined ∙ occurs.defined_size;
             defined = λ n. ap (λ (f : Facts). marked f.defined n) same ∙ ap (λ (ms : List Bool). marked ms n) keeps.defined ∙ unmarked (marked facts.defined n) (nat_lt n (length program.names));
             models = ap (λ (f : Facts). f.models) same ∙ keeps.models ∙ sym (append-nil facts.models);
             fixed = tt;
@@ -327,20 +327,20 @@ module _ {F : Type 0} (value : F → Number) where
           let n = with_model_names facts models in
           let same = models-same sound models n in
           let keeps = model_names-keeps models facts in
-          let go = models-go (length program.names) models facts stands.known stands.defined_size in
+          let go = models-go (length program.names) models facts occurs.known occurs.defined_size in
           let state = names-state models facts in
           let drawn_state : drawn (with_models sound n models).state ≡ drawn (declare_models facts.state models) = ap (λ (f : Facts). drawn f.state) same ∙ ap drawn state in
           let extended : drawn n.state ≡ drawn (declare_models facts.state models) = ap drawn state in
           let grows : Grows (drawn facts.state) (drawn (declare_models facts.state models)) = subst (Grows (drawn facts.state)) extended go.grows in
           let known : IsKnown (length program.names) (drawn (declare_models facts.state models)) n.declared = subst (λ (t : State). IsKnown (length program.names) t n.declared) extended go.known in
-          let equations : n.equations ≡ filter (is_equation_in (drawn (declare_models facts.state models))) (equations_before past) = go.equated ∙ append-nil facts.equations ∙ stands.equations ∙ sym (kept-equations (length program.names) (drawn facts.state) (drawn (declare_models facts.state models)) facts.declared n.declared stands.known known grows (equations_before past) stands.settled) in
-          let settled : AreSettled (length program.names) (drawn (declare_models facts.state models)) (equations_before past) = settled-grows (length program.names) (drawn facts.state) (drawn (declare_models facts.state models)) grows (equations_before past) stands.settled in
-          let size : length n.defined ≡ length program.names = ap length keeps.defined ∙ stands.defined_size in
+          let equations : n.equations ≡ filter (is_equation_in (drawn (declare_models facts.state models))) (equations_before past) = go.equated ∙ append-nil facts.equations ∙ occurs.equations ∙ sym (kept-equations (length program.names) (drawn facts.state) (drawn (declare_models facts.state models)) facts.declared n.declared occurs.known known grows (equations_before past) occurs.settled) in
+          let settled : AreSettled (length program.names) (drawn (declare_models facts.state models)) (equations_before past) = settled-grows (length program.names) (drawn facts.state) (drawn (declare_models facts.state models)) grows (equations_before past) occurs.settled in
+          let size : length n.defined ≡ length program.names = ap length keeps.defined ∙ occurs.defined_size in
           record {
             state = ap (λ (f : Facts). f.state) same ∙ state ∙ sym (same_state (declare_models facts.state models) sound);
             go = subst (λ (f : Facts). FactsGo (length program.names) facts f (map (λ (model : ModelDecl). model.named.name) models) []) (sym same) go;
             dynamic = ap (λ (f : Facts). f.dynamic) same ∙ keeps.dynamic;
-            unordered_size = ap (λ (f : Facts). length f.unordered) same ∙ ap length keeps.unordered ∙ stands.unordered_size;
+            unordered_size = ap (λ (f : Facts). length f.unordered) same ∙ ap length keeps.unordered ∙ occurs.unordered_size;
             unordered = λ k. ap (λ (f : Facts). marked f.unordered k) same ∙ ap (λ (ms : List Bool). marked ms k) keeps.unordered ∙ unmarked-order sound k;
             defined_size = ap (λ (f : Facts). length f.defined) same ∙ size;
             defined = λ k. ap (λ (f : Facts). marked f.defined k) same ∙ ap (λ (ms : List Bool). marked ms k) keeps.defined ∙ unmarked (marked facts.defined k) (nat_lt k (length program.names));
@@ -353,23 +353,23 @@ module _ {F : Type 0} (value : F → Number) where
       step (Declare kind items) sound listed = step-declare kind items sound
       step (Alias first second) sound listed = record {
         state = sym (same_state (declare_alias facts.state first.name second.name) sound);
-        go = alias-goes (length program.names) facts first.name second.name stands.known stands.defined_size;
+        go = alias-goes (length program.names) facts first.name second.name occurs.known occurs.defined_size;
         dynamic = refl;
-        unordered_size = stands.unordered_size;
+        unordered_size = occurs.unordered_size;
         unordered = λ n. unmarked-order sound n;
-        defined_size = stands.defined_size;
+        defined_size = occurs.defined_size;
         defined = λ n. unmarked (marked facts.defined n) (nat_lt n (length program.names));
         models = sym (append-nil facts.models);
         fixed = tt;
       }
       step (Define equation indices condition left_at left side right_at right) sound listed = record {
         state = sym (same_state facts.state sound);
-        go = goes-none (length program.names) (drawn facts.state) facts.declared facts.equations stands.known;
+        go = goes-none (length program.names) (drawn facts.state) facts.declared facts.equations occurs.known;
         dynamic = refl;
-        unordered_size = stands.unordered_size;
+        unordered_size = occurs.unordered_size;
         unordered = λ n. unmarked-order sound n;
-        defined_size = length-set facts.defined equation.name true ∙ stands.defined_size;
-        defined = λ n. mark-one facts.defined equation.name n ∙ ap (λ (k : ℕ). marked facts.defined n || (nat_lt n k && (equation.name == n))) stands.defined_size;
+        defined_size = length-set facts.defined equation.name true ∙ occurs.defined_size;
+        defined = λ n. mark-one facts.defined equation.name n ∙ ap (λ (k : ℕ). marked facts.defined n || (nat_lt n k && (equation.name == n))) occurs.defined_size;
         models = sym (append-nil facts.models);
         fixed = tt;
       }
@@ -378,7 +378,7 @@ module _ {F : Type 0} (value : F → Number) where
           step-none act sound (sym (same_state facts.state sound)) refl refl (λ n. refl) (λ n. refl) refl
 
       -- the invariant after a statement
-      pub stands-after : (statement : Stmt F) (sound : Bool) → IsListed facts.state statement.act sound → Stands value program (facts_after value facts statement.act sound) (past ++ (statement, sound) ∷ [])
-      stands-after statement sound listed =
+      pub occurs-after : (statement : Stmt F) (sound : Bool) → IsListed facts.state statement.act sound → Occurs value program (facts_after value facts statement.act sound) (past ++ (statement, sound) ∷ [])
+      occurs-after statement sound listed =
           let s = step statement.act sound listed in
-          stands-more value program facts (facts_after value facts statement.act sound) past stands (statement, sound) s.state s.go s.dynamic s.unordered_size s.unordered s.defined_size s.defined s.models s.fixed
+          occurs-more value program facts (facts_after value facts statement.act sound) past occurs (statement, sound) s.state s.go s.dynamic s.unordered_size s.unordered s.defined_size s.defined s.models s.fixed

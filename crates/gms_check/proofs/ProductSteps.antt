@@ -24,9 +24,9 @@ use Rattle.gms_check.proofs.PartUses.{steps-first, steps-more}
 -- ---- the errors of a step
 
 -- a step by its two errors
-pub step-by : (at : Place) (s t u : Checking) (context : Context) (operation : Operation) (earlier right stands linear : Bool) → t ≡ faulted s at ((not stands, WrongKind) ∷ []) → u ≡ faulted t at ((context.variables && not linear, Nonlinear) ∷ []) → not stands ≡ step_wrong context operation → not linear ≡ step_curved operation earlier right → u ≡ faulted s at (step_faults context operation earlier right)
-step-by at s t u context operation earlier right stands linear e f wrong curved =
-    chain-2 at s t u (not stands, WrongKind) (context.variables && not linear, Nonlinear) e f ∙ ap (λ (b : Bool). faulted s at ((b, WrongKind) ∷ (context.variables && not linear, Nonlinear) ∷ [])) wrong ∙ ap (λ (b : Bool). faulted s at ((step_wrong context operation, WrongKind) ∷ (context.variables && b, Nonlinear) ∷ [])) curved ∙ whole operation
+pub step-by : (at : Place) (s t u : Checking) (context : Context) (operation : Operation) (earlier right occurs linear : Bool) → t ≡ faulted s at ((not occurs, WrongKind) ∷ []) → u ≡ faulted t at ((context.variables && not linear, Nonlinear) ∷ []) → not occurs ≡ step_wrong context operation → not linear ≡ step_curved operation earlier right → u ≡ faulted s at (step_faults context operation earlier right)
+step-by at s t u context operation earlier right occurs linear e f wrong curved =
+    chain-2 at s t u (not occurs, WrongKind) (context.variables && not linear, Nonlinear) e f ∙ ap (λ (b : Bool). faulted s at ((b, WrongKind) ∷ (context.variables && not linear, Nonlinear) ∷ [])) wrong ∙ ap (λ (b : Bool). faulted s at ((step_wrong context operation, WrongKind) ∷ (context.variables && b, Nonlinear) ∷ [])) curved ∙ whole operation
   where
     whole : (operation : Operation) → faulted s at ((step_wrong context operation, WrongKind) ∷ (context.variables && step_curved operation earlier right, Nonlinear) ∷ []) ≡ faulted s at (step_faults context operation earlier right)
     whole Multiplies = refl

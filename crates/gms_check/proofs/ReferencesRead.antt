@@ -13,10 +13,10 @@ use Rattle.gms_check.specs.Checked.{FollowsIn}
 use Rattle.gms_check.specs.CompileErrors.{compile_errors, errors_after, known_after}
 use Rattle.gms_check.specs.Loaded.{sound}
 use Rattle.gms_check.specs.Past.{Known}
-use Rattle.gms_check.specs.References.{Asking, InTree, a_reference, an_ord, in_amount, in_argument, in_condition, in_body, in_negated, in_sum, in_product, in_power, in_relation, in_not, in_and, in_or, in_guarded, in_guard, InParts, in_part, in_later_part, InIndices, in_lag, behind_label, behind_set, behind_lag, InControl, in_where, InAct, on_the_left, in_left_condition, on_the_right, in_definition_condition, in_left_side, in_right_side, in_loop_condition, in_abort_condition, InStatement, IsMeant}
+use Rattle.gms_check.specs.References.{Asking, InTree, a_reference, an_ord, in_amount, in_argument, in_condition, in_body, in_negated, in_sum, in_product, in_power, in_relation, in_not, in_and, in_or, in_guarded, in_guard, InParts, in_part, in_later_part, InIndices, in_lag, after_label, after_set, after_lag, InControl, in_where, InAct, on_the_left, in_left_condition, on_the_right, in_definition_condition, in_left_side, in_right_side, in_loop_condition, in_abort_condition, InStatement, IsMeant}
 use Rattle.gms_check.specs.Contexts.{as_number, as_condition, as_side, as_part, as_inner, as_guarded, as_denied}
 use Rattle.gms_check.specs.InnerStatements.{act_uses}
-use Rattle.gms_check.specs.StatementUses.{index_list, left_uses, right_standing, show_uses, statement_uses, with_left}
+use Rattle.gms_check.specs.StatementUses.{index_list, left_uses, right_context, show_uses, statement_uses, with_left}
 use Rattle.gms_check.specs.Uses.{Uses, reading, ordinal, place_by_mark, steps, sets_of_control, uses, part_uses, amount_uses, control_uses, shift_uses, condition_uses}
 use Rattle.gms_check.proofs.ActUses.{uses-Abort, uses-Assign, uses-Define, uses-Loop, uses-act}
 use Rattle.gms_check.proofs.LeftAmounts.{clean-one_of}
@@ -60,9 +60,9 @@ module _ {F : Type 0} (known : Known F) (within : List ℕ) where
     in-indices : {what : Asking F} {around : List ℕ} {indices : Indices F} → InIndices within what around indices → AreClean known (amount_uses around indices) → IsMeant known within what
     in-indices (in_lag {around = around} {at = place} {amount = amount} {rest = rest} inside) clean =
         in-tree inside as_number place (clean-left known (uses as_number place around amount) (amount_uses around rest) clean)
-    in-indices (behind_label inside) clean = in-indices inside clean
-    in-indices (behind_set inside) clean = in-indices inside clean
-    in-indices (behind_lag {around = around} {at = place} {amount = amount} {rest = rest} inside) clean =
+    in-indices (after_label inside) clean = in-indices inside clean
+    in-indices (after_set inside) clean = in-indices inside clean
+    in-indices (after_lag {around = around} {at = place} {amount = amount} {rest = rest} inside) clean =
         in-indices inside (clean-right known (uses as_number place around amount) (amount_uses around rest) clean)
 
     in-control : {what : Asking F} {around : List ℕ} {control : Control F} → InControl within what around control → (at : Place) → AreClean known (control_uses at around control) → IsMeant known within what
@@ -93,17 +93,17 @@ module _ {F : Type 0} (known : Known F) (within : List ℕ) where
         by (on_the_left target condition right_at right is inside) clean =
             let around = with_left loops target.indices in
             let whole = subst (AreClean known) (uses-Assign known.state statement.at loops target condition right_at right) (as-act _ is clean) in
-            let left = clean-left known (left_uses statement.at around target.indices condition) (uses (right_standing known.state target.name) right_at around (tree_of right)) whole.1 in
+            let left = clean-left known (left_uses statement.at around target.indices condition) (uses (right_context known.state target.name) right_at around (tree_of right)) whole.1 in
             in-indices inside (left-shifts around (index_list target.indices) (clean-left known (shift_uses around (index_list target.indices)) (condition_uses statement.at around (option_map tree_of condition)) left))
         by (in_left_condition target condition right_at right is inside) clean =
             let around = with_left loops target.indices in
             let whole = subst (AreClean known) (uses-Assign known.state statement.at loops target (Some condition) right_at right) (as-act _ is clean) in
-            let left = clean-left known (left_uses statement.at around target.indices (Some condition)) (uses (right_standing known.state target.name) right_at around (tree_of right)) whole.1 in
+            let left = clean-left known (left_uses statement.at around target.indices (Some condition)) (uses (right_context known.state target.name) right_at around (tree_of right)) whole.1 in
             in-tree inside as_condition statement.at (clean-right known (shift_uses around (index_list target.indices)) (uses as_condition statement.at around (tree_of condition)) left)
         by (on_the_right target condition right_at right is inside) clean =
             let around = with_left loops target.indices in
             let whole = subst (AreClean known) (uses-Assign known.state statement.at loops target condition right_at right) (as-act _ is clean) in
-            in-tree inside (right_standing known.state target.name) right_at (clean-right known (left_uses statement.at around target.indices condition) (uses (right_standing known.state target.name) right_at around (tree_of right)) whole.1)
+            in-tree inside (right_context known.state target.name) right_at (clean-right known (left_uses statement.at around target.indices condition) (uses (right_context known.state target.name) right_at around (tree_of right)) whole.1)
         by (in_definition_condition equation indices condition left_at left side right_at right is inside) clean =
             let around = with_left loops indices in
             let sides = uses as_side left_at around (tree_of left) ++ uses as_side right_at around (tree_of right) in
@@ -135,10 +135,10 @@ module _ {F : Type 0} (known : Known F) (within : List ℕ) where
         let sets = loops ++ sets_of_control (control_tree inside.control) in
         let whole = subst (AreClean known) (uses-act statement known.state loops ∙ ap (λ (act : Act F). act_uses act known.state statement.at loops) inside.loop ∙ uses-Loop known.state statement.at loops inside.control inside.body) clean in
         let body = clean-right known (control_uses statement.at loops (control_tree inside.control)) (flat_map (λ (s : Stmt F). statement_uses s known.state sets) inside.body.items) whole in
-        in-statement depth inside.next sets inside.holds (clean-one_of known sets inside.before inside.rest inside.next (subst (λ (statements : List (Stmt F)). AreClean known (flat_map (λ (s : Stmt F). statement_uses s known.state sets) statements)) inside.stands body))
+        in-statement depth inside.next sets inside.holds (clean-one_of known sets inside.before inside.rest inside.next (subst (λ (statements : List (Stmt F)). AreClean known (flat_map (λ (s : Stmt F). statement_uses s known.state sets) statements)) inside.occurs body))
 
 module _ {F : Type 0} (value : F → Number) where
   -- in a program without errors
   pub program-meant : (program : Program F) (solvers : List (List ℕ)) (before : List (Stmt F)) (statement : Stmt F) (depth : ℕ) (within : List ℕ) (what : Asking F) → compile_errors value program solvers ≡ [] → FollowsIn program before statement → InStatement depth within what [] statement → IsMeant (known_after value program solvers (sound before)) within what
-  program-meant program solvers before statement depth within what none stands inside =
-      in-statement (known_after value program solvers (sound before)) within what depth statement [] inside (statement-clean (known_after value program solvers (sound before)) statement (after-sound value program solvers before [] statement stands.0 (sym (ap (errors_after value program solvers []) stands.1) ∙ none)))
+  program-meant program solvers before statement depth within what none occurs inside =
+      in-statement (known_after value program solvers (sound before)) within what depth statement [] inside (statement-clean (known_after value program solvers (sound before)) statement (after-sound value program solvers before [] statement occurs.0 (sym (ap (errors_after value program solvers []) occurs.1) ∙ none)))

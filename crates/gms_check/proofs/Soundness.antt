@@ -26,7 +26,7 @@ use Rattle.gms_check.specs.Errors.{first_error}
 use Rattle.gms_check.specs.Kinds.{has_wrong_set}
 use Rattle.gms_check.specs.Loaded.{sound}
 use Rattle.gms_check.specs.Past.{Known, Past, is_among}
-use Rattle.gms_check.specs.Contexts.{may_be_assigned, may_stand}
+use Rattle.gms_check.specs.Contexts.{may_be_assigned, may_occur}
 use Rattle.gms_check.specs.InnerStatements.{act_uses}
 use Rattle.gms_check.specs.StatementUses.{statement_uses}
 use Rattle.gms_check.specs.Uses.{Use, Uses, assigning, cardinal, controlling, defining, index_sets, ordinal, reading}
@@ -77,8 +77,8 @@ module _ {F : Type 0} where
   pub sound-use : (known : Known F) (used : Use F) → IsClean known used → IsSound known used
   sound-use known (reading context controlled name suffix indices) clean = record {
     declared = neither-first (has_no_declaration known.state name) (list_any (has_no_declaration known.state) (index_sets indices)) (clean UnknownName);
-    stands = not-false (may_stand context (declared_kind known.state name) suffix) (neither-first (not (may_stand context (declared_kind known.state name) suffix)) (has_wrong_set known (index_sets indices)) (clean WrongKind));
-    fitting = are-indices known name indices (neither-second (not (may_stand context (declared_kind known.state name) suffix)) (has_wrong_set known (index_sets indices)) (clean WrongKind)) (clean WrongArity) (clean DomainOfSet) (clean DomainOfLabel) (clean NotOrdered);
+    occurs = not-false (may_occur context (declared_kind known.state name) suffix) (neither-first (not (may_occur context (declared_kind known.state name) suffix)) (has_wrong_set known (index_sets indices)) (clean WrongKind));
+    fitting = are-indices known name indices (neither-second (not (may_occur context (declared_kind known.state name) suffix)) (has_wrong_set known (index_sets indices)) (clean WrongKind)) (clean WrongArity) (clean DomainOfSet) (clean DomainOfLabel) (clean NotOrdered);
     controls = all-pass (is_among controlled) (index_sets indices) (clean Uncontrolled);
   }
   sound-use known (ordinal context controlled name) clean =
@@ -128,6 +128,6 @@ module _ {F : Type 0} (value : F → Number) (program : Program F) (solvers : Li
 
   -- a program without errors
   pub checked-program : compile_errors value program solvers ≡ [] → IsChecked value program solvers
-  checked-program e before statement stands =
+  checked-program e before statement occurs =
       let known = known_after value program solvers (sound before) in
-      All-from_recursion (λ (u : Place × Use F). IsSound known u.1) (statement_uses statement known.state []) (sound-uses known (statement_uses statement known.state []) (statement-clean known statement (after-sound before [] statement stands.0 (sym (ap (errors_after value program solvers []) stands.1) ∙ e))))
+      All-from_recursion (λ (u : Place × Use F). IsSound known u.1) (statement_uses statement known.state []) (sound-uses known (statement_uses statement known.state []) (statement-clean known statement (after-sound before [] statement occurs.0 (sym (ap (errors_after value program solvers []) occurs.1) ∙ e))))

@@ -8,7 +8,7 @@ use Rattle.gms_ast.specs.declared.program.Stmt.{Stmt}
 use Rattle.gms_ast.specs.declared.program.Program.{Program}
 use Rattle.gms_ast.specs.Trees.{Indices}
 use Rattle.gms_check.specs.declared.contexts.Context.{Context}
-use Rattle.gms_check.specs.Contexts.{may_stand, may_be_assigned}
+use Rattle.gms_check.specs.Contexts.{may_occur, may_be_assigned}
 use Rattle.gms_check.specs.Uses.{Use, Uses, reading, ordinal, cardinal, controlling, assigning, defining, index_sets}
 use Rattle.gms_check.specs.StatementUses.{statement_uses}
 use Rattle.gms_check.specs.Past.{Known, is_among}
@@ -35,7 +35,7 @@ module _ {F : Type 0} where
   -- fit it, and each index set is controlled.
   pub record IsReading (known : Known F) (context : Context) (controlled : List ℕ) (name : ℕ) (suffix : Suffix) (indices : Indices F) : Type 0 where
     pub declared : has_no_declaration known.state name ≡ false
-    pub stands : may_stand context (declared_kind known.state name) suffix ≡ true
+    pub occurs : may_occur context (declared_kind known.state name) suffix ≡ true
     pub fitting : AreIndices known name indices
     pub controls : All (λ index. is_among controlled index ≡ true) (index_sets indices)
 

@@ -45,19 +45,19 @@ as_denied at = if at.membership then at else as_condition
 
 -- whether a symbol of this kind may be read by this suffix there. A variable without suffix is
 -- another error
-abbrev pub may_stand : Context → SymbolKind → Suffix → Bool
-may_stand at kind.Set suffix.None = at.sets
-may_stand at kind.Parameter suffix.None = at.numbers
-may_stand at kind.Variable suffix.None = true
-may_stand at kind.Variable suffix.Lo = at.numbers
-may_stand at kind.Variable suffix.Up = at.numbers
-may_stand at kind.Variable suffix.L = at.numbers
-may_stand at kind.Variable suffix.M = at.numbers
-may_stand at kind.Equation suffix.L = at.numbers
-may_stand at kind.Equation suffix.M = at.numbers
-may_stand at kind.Model suffix.ModelStat = at.numbers
-may_stand at kind.Model suffix.SolveStat = at.numbers
-may_stand at kind suffix = false
+abbrev pub may_occur : Context → SymbolKind → Suffix → Bool
+may_occur at kind.Set suffix.None = at.sets
+may_occur at kind.Parameter suffix.None = at.numbers
+may_occur at kind.Variable suffix.None = true
+may_occur at kind.Variable suffix.Lo = at.numbers
+may_occur at kind.Variable suffix.Up = at.numbers
+may_occur at kind.Variable suffix.L = at.numbers
+may_occur at kind.Variable suffix.M = at.numbers
+may_occur at kind.Equation suffix.L = at.numbers
+may_occur at kind.Equation suffix.M = at.numbers
+may_occur at kind.Model suffix.ModelStat = at.numbers
+may_occur at kind.Model suffix.SolveStat = at.numbers
+may_occur at kind suffix = false
 
 -- whether a symbol of this kind may be assigned by this suffix
 abbrev pub may_be_assigned : SymbolKind → Suffix → Bool

@@ -52,7 +52,7 @@ module _ {F : Type 0} where
   pub record Declares (program : Program F) (kind : DeclKind) (item : Decl F) : Type 0 where
     pub before : List (Stmt F)
     pub statement : Stmt F
-    pub stands : FollowsIn program before statement
+    pub occurs : FollowsIn program before statement
     pub first : List (Decl F)
     pub rest : List (Decl F)
     pub act : statement.act ≡ Declare kind (first ++ item ∷ rest)

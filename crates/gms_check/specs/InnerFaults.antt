@@ -21,8 +21,8 @@ kind_of_fault Repeated = DataFault
 kind_of_fault Full = DataFault
 
 module _ {F : Type 0} where
-  -- the possible errors of a name with its indices, each with whether it occurs; `stands` tells
+  -- the possible errors of a name with its indices, each with whether it occurs; `occurs` tells
   -- whether the name's kind fits the context
   abbrev pub index_faults : Known F → ℕ → Bool → Indices F → List (Bool × ErrorKind)
-  index_faults known name stands indices =
-      (has_no_declaration known.state name || list_any (has_no_declaration known.state) (index_sets indices), UnknownName) ∷ (not stands || has_wrong_set known (index_sets indices), WrongKind) ∷ (is_wrong_count (length (positions known.state name)) (index_count indices), WrongArity) ∷ (has_unfit_set known name (positions known.state name) indices, DomainOfSet) ∷ (has_unfit_label known name (positions known.state name) indices, DomainOfLabel) ∷ (list_any (λ index. not (is_ordered known index)) (lagged_sets indices), NotOrdered) ∷ []
+  index_faults known name occurs indices =
+      (has_no_declaration known.state name || list_any (has_no_declaration known.state) (index_sets indices), UnknownName) ∷ (not occurs || has_wrong_set known (index_sets indices), WrongKind) ∷ (is_wrong_count (length (positions known.state name)) (index_count indices), WrongArity) ∷ (has_unfit_set known name (positions known.state name) indices, DomainOfSet) ∷ (has_unfit_label known name (positions known.state name) indices, DomainOfLabel) ∷ (list_any (λ index. not (is_ordered known index)) (lagged_sets indices), NotOrdered) ∷ []

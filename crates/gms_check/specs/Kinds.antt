@@ -10,7 +10,7 @@ use Rattle.gms_ast.specs.Trees.{Tree, number, reference, Parts, no_part, part, I
 use Rattle.gms_store.specs.declared.kind.SymbolKind.{SymbolKind}
 use Rattle.gms_store.specs.declared.kind.SymbolKind.TheVariants as kind
 use Rattle.gms_check.specs.declared.contexts.Context.{Context}
-use Rattle.gms_check.specs.Contexts.{as_condition, may_stand, may_be_assigned}
+use Rattle.gms_check.specs.Contexts.{as_condition, may_occur, may_be_assigned}
 use Rattle.gms_check.specs.Uses.{Use, literal, truth, reading, ordinal, cardinal, calling, folding, controlling, stepping, multiplies, divides, raises, logic, assigning, defining, shifting, not_continuous, bounding, first_alias, second_alias, listing, solving, optimizing, showing, index_sets}
 use Rattle.gms_check.specs.Past.{Known}
 use Rattle.gms_scope.specs.Names.{is_equation, is_index_set, is_model, is_set_name, has_no_declaration, declared_kind, positions}
@@ -78,7 +78,7 @@ module _ {F : Type 0} where
   wrong_kind known (literal context) = not context.numbers
   wrong_kind known (truth context) = not context.membership
   wrong_kind known (reading context controlled name suffix indices) =
-      not (may_stand context (declared_kind known.state name) suffix) || has_wrong_set known (index_sets indices)
+      not (may_occur context (declared_kind known.state name) suffix) || has_wrong_set known (index_sets indices)
   wrong_kind known (ordinal context controlled name) = not context.numbers || not (is_set_name known.state name)
   wrong_kind known (cardinal context name) = not context.numbers || not (is_set_name known.state name)
   wrong_kind known (calling context function args) = not context.numbers
@@ -98,7 +98,7 @@ module _ {F : Type 0} where
   wrong_kind known (listing name) = not (is_equation (declared_kind known.state name))
   wrong_kind known (solving name) = not (is_model (declared_kind known.state name))
   wrong_kind known (optimizing name) = not (is_variable_kind (declared_kind known.state name))
-  wrong_kind known (showing name suffix) = not (may_stand as_condition (declared_kind known.state name) suffix)
+  wrong_kind known (showing name suffix) = not (may_occur as_condition (declared_kind known.state name) suffix)
   wrong_kind known used = false
 
   -- Discrete: variables that are binary, integer or of a special ordered set

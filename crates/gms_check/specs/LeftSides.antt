@@ -33,7 +33,7 @@ module _ {F : Type 0} where
     pub before : List (Stmt F)
     pub next : Stmt F
     pub rest : List (Stmt F)
-    pub stands : body.items ≡ before ++ next ∷ rest
+    pub occurs : body.items ≡ before ++ next ∷ rest
     pub holds : Inner next
 
   -- a statement is another one, or `depth` loops deep in it

@@ -85,11 +85,11 @@ mutual
   pub data InIndices {F : Type 0} (within : List ℕ) : Asking F → List ℕ → Indices F → Type 0 where
     in_lag : {what : Asking F} {around : List ℕ} {name : ℕ} {op : LagOp} {at : Place} {amount : Tree F} {rest : Indices F} →
         InTree within what around amount → InIndices within what around (lagged name op at amount rest)
-    behind_label : {what : Asking F} {around : List ℕ} {n : ℕ} {rest : Indices F} →
+    after_label : {what : Asking F} {around : List ℕ} {n : ℕ} {rest : Indices F} →
         InIndices within what around rest → InIndices within what around (label n rest)
-    behind_set : {what : Asking F} {around : List ℕ} {name : ℕ} {rest : Indices F} →
+    after_set : {what : Asking F} {around : List ℕ} {name : ℕ} {rest : Indices F} →
         InIndices within what around rest → InIndices within what around (set name rest)
-    behind_lag : {what : Asking F} {around : List ℕ} {name : ℕ} {op : LagOp} {at : Place} {amount : Tree F} {rest : Indices F} →
+    after_lag : {what : Asking F} {around : List ℕ} {name : ℕ} {op : LagOp} {at : Place} {amount : Tree F} {rest : Indices F} →
         InIndices within what around rest → InIndices within what around (lagged name op at amount rest)
 
   -- It occurs in the condition of a control, in which its sets are controlled.
@@ -134,7 +134,7 @@ module _ {F : Type 0} where
     pub before : List (Stmt F)
     pub next : Stmt F
     pub rest : List (Stmt F)
-    pub stands : body.items ≡ before ++ next ∷ rest
+    pub occurs : body.items ≡ before ++ next ∷ rest
     pub holds : Inner (loops ++ sets_of_control (control_tree control)) next
 
   -- it occurs in a statement, `depth` loops deep

@@ -23,8 +23,8 @@ use Rattle.gms_check.specs.Contexts.{as_number, as_side, as_members}
 use Rattle.gms_check.specs.Uses.{Use, Uses, assigning, defining, first_alias, second_alias, solving, method, optimizing, showing, option_word, option_value, sets_of_control, index_sets, uses, control_uses, shift_uses, condition_uses}
 
 -- the context of the right side of an assignment to a name
-abbrev pub right_standing : State → ℕ → Context
-right_standing state name = if is_set (symbol_at state name).content then as_members else as_number
+abbrev pub right_context : State → ℕ → Context
+right_context state name = if is_set (symbol_at state name).content then as_members else as_number
 
 -- what a statement uses, by what is declared and the sets that are controlled
 abbrev pub UsesOfStatement : Type 0 → Type 0
@@ -70,7 +70,7 @@ module _ {F : Type 0} where
   act_uses_step (Act-F.Alias first second) state at controlled =
       (first.at, first_alias first.name second.name) ∷ (second.at, second_alias first.name second.name) ∷ []
   act_uses_step (Act-F.Assign target condition right_at (Value right)) state at controlled =
-      (target.at, assigning target.name target.suffix (index_list target.indices)) ∷ (left_uses at (with_left controlled target.indices) target.indices condition ++ uses (right_standing state target.name) right_at (with_left controlled target.indices) (tree_of right))
+      (target.at, assigning target.name target.suffix (index_list target.indices)) ∷ (left_uses at (with_left controlled target.indices) target.indices condition ++ uses (right_context state target.name) right_at (with_left controlled target.indices) (tree_of right))
   act_uses_step (Act-F.Define equation indices condition left_at left side right_at right) state at controlled =
       (equation.at, defining equation.name (index_list indices)) ∷ (left_uses at (with_left controlled indices) indices condition ++ (uses as_side left_at (with_left controlled indices) (tree_of left) ++ uses as_side right_at (with_left controlled indices) (tree_of right)))
   act_uses_step (Act-F.Model models) state at controlled = []

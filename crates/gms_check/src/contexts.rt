@@ -1,6 +1,6 @@
 //! The context of an expression, and so what may occur in it.
 ghost use Rattle.std.specs.Prelude.{◌≡◌};
-ghost use Rattle.gms_check.specs.Contexts.{as_condition, as_denied, as_guarded, as_inner, as_members, as_number, as_part, as_side, may_be_assigned, may_stand};
+ghost use Rattle.gms_check.specs.Contexts.{as_condition, as_denied, as_guarded, as_inner, as_members, as_number, as_part, as_side, may_be_assigned, may_occur};
 
 use gms_ast::Suffix;
 use gms_store::SymbolKind;
@@ -96,7 +96,7 @@ impl Context {
     /// Whether a symbol of this kind may be read by this suffix. A variable without suffix is
     /// admitted here: it is another error.
     pub(crate) fn admits(self, kind: SymbolKind, suffix: Suffix) -> bool
-        ensures { result ≡ may_stand self kind suffix }
+        ensures { result ≡ may_occur self kind suffix }
     {
         match (kind, suffix) {
             (SymbolKind::Set, Suffix::None) => self.sets,

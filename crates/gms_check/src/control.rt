@@ -69,9 +69,9 @@ impl<'s, F: ExactField> Checker<'s, F> {
         ensures noted { seen self.new ≡ noted F.value (seen self.old) ((at, cardinal context set) ∷ []) }
         ensures variable { result ≡ false }
     {
-        let stands = context.numbers && self.known.is_set(set);
+        let occurs = context.numbers && self.known.is_set(set);
         self.require_known(set, at);
-        self.require(stands, ErrorKind::WrongKind, at);
+        self.require(occurs, ErrorKind::WrongKind, at);
         false
     }
 }

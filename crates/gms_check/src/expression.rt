@@ -83,11 +83,11 @@ impl<'s, F: ExactField> Checker<'s, F> {
     }
 
     /// Checks a leaf by whether it may occur there. Answers whether it has variables: it has none.
-    fn leaf(&mut self, stands: bool, at: Place) -> bool
-        ensures noted { seen self.new ≡ faulted (seen self.old) at ((not stands, WrongKind) ∷ []) }
+    fn leaf(&mut self, occurs: bool, at: Place) -> bool
+        ensures noted { seen self.new ≡ faulted (seen self.old) at ((not occurs, WrongKind) ∷ []) }
         ensures variable { result ≡ false }
     {
-        self.require(stands, ErrorKind::WrongKind, at);
+        self.require(occurs, ErrorKind::WrongKind, at);
         false
     }
 
@@ -340,9 +340,9 @@ impl<'s, F: ExactField> Checker<'s, F> {
     )
         ensures { seen self.new ≡ faulted (seen self.old) at (step_faults context operation earlier right) }
     {
-        let stands = may_step(context, operation);
+        let occurs = may_step(context, operation);
         let linear = is_linear_step(operation, earlier, right);
-        self.require(stands, ErrorKind::WrongKind, at);
+        self.require(occurs, ErrorKind::WrongKind, at);
         self.require_linear(context, linear, at);
     }
 

@@ -39,8 +39,8 @@ impl<'s, F: ExactField> Checker<'s, F> {
         let uncontrolled = has_uncontrolled(&self.controlled, &sets);
         self.named(named, context.admits(kind, suffix), indices)?;
         self.require(!uncontrolled, ErrorKind::Uncontrolled, named.at);
-        let stands = context.variables || !variable;
-        self.require(stands, ErrorKind::Endogenous, named.at);
+        let occurs = context.variables || !variable;
+        self.require(occurs, ErrorKind::Endogenous, named.at);
         Ok(variable)
     }
 
@@ -58,16 +58,16 @@ impl<'s, F: ExactField> Checker<'s, F> {
     pub fn named(
         &mut self,
         named: Named,
-        stands: bool,
+        occurs: bool,
         indices: &[Index<F>],
     ) -> Result<(), AllocError>
         ensures { OnOk result (seen self.new
-            ≡ faulted (seen self.old) named.at (index_faults (known_of F.value (seen self.old)) named.name stands (index_list indices.now))) }
+            ≡ faulted (seen self.old) named.at (index_faults (known_of F.value (seen self.old)) named.name occurs (index_list indices.now))) }
     {
         let sets = index_sets(self.alloc, indices)?;
         let lagged = lagged_sets(self.alloc, indices)?;
         let unknown = self.known.is_unknown(named.name) || has_unknown(&self.known, &sets);
-        let wrong = !stands || has_wrong_set(&self.known, &sets);
+        let wrong = !occurs || has_wrong_set(&self.known, &sets);
         let miscounted = is_wrong_count(self.known.position_count(named.name), indices.len());
         let unfit = has_unfit_set(&self.known, named.name, indices);
         let outside = has_unfit_label(self.alloc, &self.known, named.name, indices)?;
@@ -105,9 +105,9 @@ impl<'s, F: ExactField> Checker<'s, F> {
     {
         let kind = self.known.kind(named.name);
         let variable = self.is_variable(named.name, suffix);
-        let stands = Context::CONDITION.admits(kind, suffix);
+        let occurs = Context::CONDITION.admits(kind, suffix);
         self.require_known(named.name, named.at);
-        self.require(stands, ErrorKind::WrongKind, named.at);
+        self.require(occurs, ErrorKind::WrongKind, named.at);
         self.require(!variable, ErrorKind::Endogenous, named.at);
     }
 }

@@ -25,12 +25,12 @@ impl<'s, F: ExactField> Checker<'s, F> {
     {
         let first_new = self.known.is_unknown(first.name);
         let second_new = self.known.is_unknown(second.name);
-        let first_stands = first_new || self.known.is_set(first.name);
-        let second_stands = second_new || self.known.is_set(second.name);
+        let first_occurs = first_new || self.known.is_set(first.name);
+        let second_occurs = second_new || self.known.is_set(second.name);
         self.require(!first_new || !second_new, ErrorKind::UnknownName, first.at);
-        self.require(first_stands, ErrorKind::WrongKind, first.at);
+        self.require(first_occurs, ErrorKind::WrongKind, first.at);
         self.require(first_new || second_new, ErrorKind::Redeclared, second.at);
-        self.require(second_stands, ErrorKind::WrongKind, second.at);
+        self.require(second_occurs, ErrorKind::WrongKind, second.at);
     }
 
     /// Checks a declaration of models, and declares them.
@@ -104,10 +104,10 @@ impl<'s, F: ExactField> Checker<'s, F> {
     fn solved_model(&mut self, model: Named)
         ensures { seen self.new ≡ noted F.value (seen self.old) ((model.at, solving model.name) ∷ []) }
     {
-        let stands = is_model(self.known.kind(model.name));
+        let occurs = is_model(self.known.kind(model.name));
         let defined = self.known.all_defined(model.name);
         self.require_known(model.name, model.at);
-        self.require(stands, ErrorKind::WrongKind, model.at);
+        self.require(occurs, ErrorKind::WrongKind, model.at);
         self.require(defined, ErrorKind::NotDefined, model.at);
     }
 
@@ -115,11 +115,11 @@ impl<'s, F: ExactField> Checker<'s, F> {
     fn objective(&mut self, objective: Named)
         ensures { seen self.new ≡ noted F.value (seen self.old) ((objective.at, optimizing objective.name) ∷ []) }
     {
-        let stands = is_variable(self.known.kind(objective.name));
+        let occurs = is_variable(self.known.kind(objective.name));
         let free = self.known.store().is_free(objective.name)
             && self.known.position_count(objective.name) == 0;
         self.require_known(objective.name, objective.at);
-        self.require(stands, ErrorKind::WrongKind, objective.at);
+        self.require(occurs, ErrorKind::WrongKind, objective.at);
         self.require(free, ErrorKind::Objective, objective.at);
     }
 }

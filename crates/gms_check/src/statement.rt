@@ -7,7 +7,7 @@ ghost use Rattle.gms_check.specs.InnerChecking.{known_of, noted, seen, with_cont
 ghost use Rattle.gms_check.specs.CompileErrors.{statement_error};
 ghost use Rattle.gms_check.specs.Contexts.{as_side};
 ghost use Rattle.gms_check.specs.InnerStatements.{act_uses, is_action};
-ghost use Rattle.gms_check.specs.StatementUses.{index_list, left_uses, right_standing, statement_uses, with_left};
+ghost use Rattle.gms_check.specs.StatementUses.{index_list, left_uses, right_context, statement_uses, with_left};
 ghost use Rattle.gms_check.specs.Uses.{assigning, control_uses, defining, index_sets, sets_of_control, uses};
 
 use crate::checker::Checker;
@@ -138,11 +138,11 @@ impl<'s, F: ExactField> Checker<'s, F> {
         right: &Expr<F>,
     ) -> Result<(), AllocError>
         ensures { OnOk result (seen self.new
-            ≡ noted F.value (seen self.old) ((target.now.at, assigning target.now.name target.now.suffix (index_list target.now.indices)) ∷ (left_uses at (with_left (seen self.old).controlled target.now.indices) target.now.indices condition.now ++ uses (right_standing (seen self.old).facts.state target.now.name) right_at (with_left (seen self.old).controlled target.now.indices) (tree_of right.now)))) }
+            ≡ noted F.value (seen self.old) ((target.now.at, assigning target.now.name target.now.suffix (index_list target.now.indices)) ∷ (left_uses at (with_left (seen self.old).controlled target.now.indices) target.now.indices condition.now ++ uses (right_context (seen self.old).facts.state target.now.name) right_at (with_left (seen self.old).controlled target.now.indices) (tree_of right.now)))) }
     {
         let outer = self.controlled.len();
         self.left_of_assignment(at, target, condition)?;
-        let context = self.right_standing(target.name);
+        let context = self.right_context(target.name);
         let _variable = self.expression(right, context, right_at)?;
         self.controlled.truncate(outer);
         Ok(())
@@ -166,8 +166,8 @@ impl<'s, F: ExactField> Checker<'s, F> {
     }
 
     /// The context of the right side of an assignment to a name.
-    fn right_standing(&self, name: u32) -> Context
-        ensures { result ≡ right_standing (seen self.now).facts.state name }
+    fn right_context(&self, name: u32) -> Context
+        ensures { result ≡ right_context (seen self.now).facts.state name }
     {
         if self.known.is_set(name) {
             Context::MEMBERS

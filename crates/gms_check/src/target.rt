@@ -28,12 +28,12 @@ impl<'s, F: ExactField> Checker<'s, F> {
             ≡ noted F.value (seen self.old) ((target.now.at, assigning target.now.name target.now.suffix (index_list target.now.indices)) ∷ [])) }
     {
         let kind = self.known.kind(target.name);
-        let stands = may_be_assigned(kind, target.suffix);
+        let occurs = may_be_assigned(kind, target.suffix);
         let named = Named {
             at: target.at,
             name: target.name,
         };
-        self.named(named, stands, target.indices.as_slice())?;
+        self.named(named, occurs, target.indices.as_slice())?;
         Ok(())
     }
 
@@ -46,9 +46,9 @@ impl<'s, F: ExactField> Checker<'s, F> {
         ensures { OnOk result (seen self.new
             ≡ noted F.value (seen self.old) ((equation.at, defining equation.name (index_list indices.now)) ∷ [])) }
     {
-        let stands = is_equation(self.known.kind(equation.name));
+        let occurs = is_equation(self.known.kind(equation.name));
         let defined = self.known.is_defined(equation.name);
-        self.named(equation, stands, indices)?;
+        self.named(equation, occurs, indices)?;
         self.require(!defined, ErrorKind::DefinedTwice, equation.at);
         Ok(())
     }
@@ -92,8 +92,8 @@ impl<'s, F: ExactField> Checker<'s, F> {
         ensures { OnOk result (seen self.new
             ≡ noted F.value (seen self.old) ((at, shifting (tree_of amount.now)) ∷ uses as_number at (seen self.old).controlled (tree_of amount.now))) }
     {
-        let stands = self.is_target_amount(amount);
-        self.require(stands, ErrorKind::WrongKind, at);
+        let occurs = self.is_target_amount(amount);
+        self.require(occurs, ErrorKind::WrongKind, at);
         let _variable = self.expression(amount, Context::NUMBER, at)?;
         Ok(())
     }

@@ -7,9 +7,9 @@ use Rattle.std.specs.Option.{option_map_or}
 use Rattle.std.specs.Str.{bytes_eq}
 use Rattle.clap.proofs.OnLiterals.{clap_on_literals}
 use Rattle.clap.specs.Lexer.{long_of}
-use Rattle.clap.specs.Traversal.{Held, Row, Rule, Step, Text, Waiting, Traversal, at_row, finished, first_of, has_row, idle, long_or_other, more_values, nothing_held, option, plain_word, pushed, settled, settled_rows, short_or_plain, trailing, traversal, walk_from, traversed, with_default, with_values, without, word_met, after_step}
+use Rattle.clap.specs.Traversal.{Held, Row, Rule, Step, Text, Waiting, Traversal, at_row, finished, first_of, has_row, idle, long_or_other, more_values, nothing_held, option, plain_word, pushed, settled, settled_rows, short_or_plain, trailing, traversal, traversal_from, traversed, with_default, with_values, without, word_met, after_step}
 use Rattle.clap.specs.Simple.{Shape, built, entered}
-use Rattle.clap.specs.Takes.{step_passes, bundle_passes, built_takes, entered_passes, flag_word_passes, level_passes, settle_passes, takes, turn_passes, walk_passes}
+use Rattle.clap.specs.Takes.{step_passes, bundle_passes, built_takes, entered_passes, flag_word_passes, level_passes, settle_passes, takes, turn_passes, traversal_passes}
 use Rattle.clap.specs.declared.parser.matches.ValueSource.TheVariants.{CommandLine, DefaultValue}
 use Rattle.clap.specs.declared.builder.value_parser.Reading.TheVariants.{AsWritten}
 use Rattle.gms_command.specs.CommandLine.{Asked, asked, gams25, is_flag_given, origin_of, request_in, request_of}
@@ -162,11 +162,11 @@ passes s waiting word h plain =
 
 -- the traversal passes, and so does the use of what is pending at its end
 abbrev ends : Traversal → List Text → Bool
-ends w words = walk_passes shape [] w words && settle_passes shape.rules false (fold (traversed shape.rules []) w words).held
+ends w words = traversal_passes shape [] w words && settle_passes shape.rules false (fold (traversed shape.rules []) w words).held
 
 ends_after : (w : Traversal) (word : Text) (words : List Text) → ends w (word ∷ words) ≡ (turn_passes shape [] w word && ends (traversed shape.rules [] w word) words)
-unfolding walk_passes
-ends_after w word words = and_assoc (turn_passes shape [] w word) (walk_passes shape [] (traversed shape.rules [] w word) words) (settle_passes shape.rules false (fold (traversed shape.rules []) (traversed shape.rules [] w word) words).held)
+unfolding traversal_passes
+ends_after w word words = and_assoc (turn_passes shape [] w word) (traversal_passes shape [] (traversed shape.rules [] w word) words) (settle_passes shape.rules false (fold (traversed shape.rules []) (traversed shape.rules [] w word) words).held)
 
 -- the state after the argument of an option, whose value comes next
 abbrev named : Valued → List Row → ℕ → Traversal
@@ -316,7 +316,7 @@ flag_onward before last waits new first =
 
 are_accepted : (parts before : List Argument) (last : Option Argument) → Waits last → are_plain parts ≡ true
     → ends (state before last) (all_words parts) ≡ (is_new before last && differ_from (seen before last) parts)
-unfolding walk_passes
+unfolding traversal_passes
 are_accepted [] before last waits plain = settles before last waits ∙ sym (and-true (is_new before last))
 are_accepted (option_with name value ∷ parts) before last waits plain =
     let split = and_parts (is_no_option value) (are_plain parts) plain in
@@ -496,10 +496,10 @@ leaf_test words = by_stop (traversal shape.rules [] nothing_held words).stopped
     by_stop None = refl
     by_stop (Some p) = refl
 
-takes_when : (words : List Text) → takes gams25 words ≡ ends (walk_from nothing_held) words
+takes_when : (words : List Text) → takes gams25 words ≡ ends (traversal_from nothing_held) words
 takes_when words =
     leaf_test words
-    ∙ ap (λ (b : Bool). walk_passes shape [] (walk_from nothing_held) words && b) (and-true (settle_passes shape.rules false (traversal shape.rules [] nothing_held words).held))
+    ∙ ap (λ (b : Bool). traversal_passes shape [] (traversal_from nothing_held) words && b) (and-true (settle_passes shape.rules false (traversal shape.rules [] nothing_held words).held))
 
 pub by_parts : IsByParts
 by_parts parts plain = by_test (are_once parts) refl

@@ -13,9 +13,9 @@ pub empty_file : request_of ([] ∷ []) ≡ Some (record { source = in_file []; 
 unfolding clap_on_literals
 empty_file = refl
 
-pub behind_dashes : request_of (codes "--" ∷ codes "-x" ∷ []) ≡ Some (record { source = in_file (codes "-x"); output = codes "-x.lst"; save = None; ranges = false })
+pub after_dashes : request_of (codes "--" ∷ codes "-x" ∷ []) ≡ Some (record { source = in_file (codes "-x"); output = codes "-x.lst"; save = None; ranges = false })
 unfolding clap_on_literals
-behind_dashes = refl
+after_dashes = refl
 
 pub hyphen : request_of (codes "-" ∷ []) ≡ Some (record { source = in_file (codes "-"); output = codes "-.lst"; save = None; ranges = false })
 unfolding clap_on_literals

@@ -22,8 +22,8 @@ all_in (labels ∷ lists) [] = false
 all_in (labels ∷ lists) (l ∷ tuple) = list_any (λ m. nat_eq m l) labels && all_in lists tuple
 
 -- the tuples with each of some labels put before them
-abbrev behind_each : List (List ℕ) → List ℕ → List (List ℕ)
-behind_each tuples labels = flat_map (λ label. map (λ tuple. label ∷ tuple) tuples) labels
+abbrev after_each : List (List ℕ) → List ℕ → List (List ℕ)
+after_each tuples labels = flat_map (λ label. map (λ tuple. label ∷ tuple) tuples) labels
 
 has-following : (m l : ℕ) (t : List ℕ) (tuples : List (List ℕ)) → has (map (λ tuple. m ∷ tuple) tuples) (l ∷ t) ≡ (nat_eq m l && has tuples t)
 has-following m l t [] = elim (nat_eq m l) as (λ b. false ≡ (b && false)) [ true ↦ refl | false ↦ refl ]
@@ -43,28 +43,28 @@ either-and true false true = refl
 either-and true false false = refl
 either-and false b c = refl
 
-has-behind_each : (tuples : List (List ℕ)) (labels : List ℕ) (l : ℕ) (t : List ℕ) → has (behind_each tuples labels) (l ∷ t) ≡ (list_any (λ m. nat_eq m l) labels && has tuples t)
-has-behind_each tuples [] l t = refl
-has-behind_each tuples (m ∷ labels) l t =
-    list_any-append (λ member. same_tuple member (l ∷ t)) (map (λ tuple. m ∷ tuple) tuples) (behind_each tuples labels)
-    ∙ ap (λ r. r || has (behind_each tuples labels) (l ∷ t)) (has-following m l t tuples)
-    ∙ ap (λ r. (nat_eq m l && has tuples t) || r) (has-behind_each tuples labels l t)
+has-after_each : (tuples : List (List ℕ)) (labels : List ℕ) (l : ℕ) (t : List ℕ) → has (after_each tuples labels) (l ∷ t) ≡ (list_any (λ m. nat_eq m l) labels && has tuples t)
+has-after_each tuples [] l t = refl
+has-after_each tuples (m ∷ labels) l t =
+    list_any-append (λ member. same_tuple member (l ∷ t)) (map (λ tuple. m ∷ tuple) tuples) (after_each tuples labels)
+    ∙ ap (λ r. r || has (after_each tuples labels) (l ∷ t)) (has-following m l t tuples)
+    ∙ ap (λ r. (nat_eq m l && has tuples t) || r) (has-after_each tuples labels l t)
     ∙ either-and (nat_eq m l) (list_any (λ m. nat_eq m l) labels) (has tuples t)
 
-has_not-behind_each : (tuples : List (List ℕ)) (labels : List ℕ) → has (behind_each tuples labels) [] ≡ false
-has_not-behind_each tuples [] = refl
-has_not-behind_each tuples (m ∷ labels) =
-    list_any-append (λ member. same_tuple member []) (map (λ tuple. m ∷ tuple) tuples) (behind_each tuples labels)
-    ∙ ap (λ r. r || has (behind_each tuples labels) []) (has_not-following m tuples)
-    ∙ has_not-behind_each tuples labels
+has_not-after_each : (tuples : List (List ℕ)) (labels : List ℕ) → has (after_each tuples labels) [] ≡ false
+has_not-after_each tuples [] = refl
+has_not-after_each tuples (m ∷ labels) =
+    list_any-append (λ member. same_tuple member []) (map (λ tuple. m ∷ tuple) tuples) (after_each tuples labels)
+    ∙ ap (λ r. r || has (after_each tuples labels) []) (has_not-following m tuples)
+    ∙ has_not-after_each tuples labels
 
 -- the elements of a product are the tuples with such labels
 pub has-product : (lists : List (List ℕ)) (tuple : List ℕ) → has (tuple_product lists) tuple ≡ all_in lists tuple
 has-product [] [] = refl
 has-product [] (l ∷ tuple) = refl
-has-product (labels ∷ lists) [] = has_not-behind_each (tuple_product lists) labels
+has-product (labels ∷ lists) [] = has_not-after_each (tuple_product lists) labels
 has-product (labels ∷ lists) (l ∷ tuple) =
-    has-behind_each (tuple_product lists) labels l tuple ∙ ap (λ b. list_any (λ m. nat_eq m l) labels && b) (has-product lists tuple)
+    has-after_each (tuple_product lists) labels l tuple ∙ ap (λ b. list_any (λ m. nat_eq m l) labels && b) (has-product lists tuple)
 
 pub all_in-length : (lists : List (List ℕ)) (tuple : List ℕ) → all_in lists tuple ≡ true → length tuple ≡ length lists
 all_in-length [] [] e = refl
@@ -113,10 +113,10 @@ ordered-following l (t ∷ tuples) in_order =
 every : {X : Type 0} (P : X → Type 0) → ((x : X) → P x) → (xs : List X) → All P xs
 every P always xs = λ k d l. always (get_or xs k d)
 
-all-following : (P : List ℕ → Type 0) (tuples : List (List ℕ)) (labels : List ℕ) → All (λ m. (t : List ℕ) → P (m ∷ t)) labels → All P (behind_each tuples labels)
+all-following : (P : List ℕ → Type 0) (tuples : List (List ℕ)) (labels : List ℕ) → All (λ m. (t : List ℕ) → P (m ∷ t)) labels → All P (after_each tuples labels)
 all-following P tuples [] all = All-nil P
 all-following P tuples (m ∷ labels) all =
-    All-append P (map (λ tuple. m ∷ tuple) tuples) (behind_each tuples labels) (All-map P (λ tuple. m ∷ tuple) tuples (every (λ t. P (m ∷ t)) (All-head (λ m. (t : List ℕ) → P (m ∷ t)) m labels all) tuples))
+    All-append P (map (λ tuple. m ∷ tuple) tuples) (after_each tuples labels) (All-map P (λ tuple. m ∷ tuple) tuples (every (λ t. P (m ∷ t)) (All-head (λ m. (t : List ℕ) → P (m ∷ t)) m labels all) tuples))
     (all-following P tuples labels (All-tail (λ m. (t : List ℕ) → P (m ∷ t)) m labels all))
 
 unwrapped : (P : List ℕ → Type 0) (labels : List ℕ) → All P (map (λ label. label ∷ []) labels) → All (λ m. P (m ∷ [])) labels
@@ -124,17 +124,17 @@ unwrapped P [] all = All-nil (λ m. P (m ∷ []))
 unwrapped P (m ∷ labels) all =
     All-cons (λ m. P (m ∷ [])) m labels (All-head P (m ∷ []) (map (λ label. label ∷ []) labels) all) (unwrapped P labels (All-tail P (m ∷ []) (map (λ label. label ∷ []) labels) all))
 
-ordered-behind_each : (tuples : List (List ℕ)) (labels : List ℕ) → AreAscending labels → IsOrdered tuples → IsOrdered (behind_each tuples labels)
-ordered-behind_each tuples [] ascending in_order = ordered-nil
-ordered-behind_each tuples (l ∷ labels) ascending in_order =
+ordered-after_each : (tuples : List (List ℕ)) (labels : List ℕ) → AreAscending labels → IsOrdered tuples → IsOrdered (after_each tuples labels)
+ordered-after_each tuples [] ascending in_order = ordered-nil
+ordered-after_each tuples (l ∷ labels) ascending in_order =
     let later = unwrapped (λ y. tuple_cmp (l ∷ []) y ≡ Less) labels (first-before (l ∷ []) (map (λ label. label ∷ []) labels) ascending) in
-    ordered-append (map (λ tuple. l ∷ tuple) tuples) (behind_each tuples labels) (ordered-following l tuples in_order)
-    (ordered-behind_each tuples labels (rest-ordered (l ∷ []) (map (λ label. label ∷ []) labels) ascending) in_order)
-    (All-map (λ x. All (λ y. tuple_cmp x y ≡ Less) (behind_each tuples labels)) (λ tuple. l ∷ tuple) tuples
-    (every (λ t. All (λ y. tuple_cmp (l ∷ t) y ≡ Less) (behind_each tuples labels)) (λ t. all-following (λ y. tuple_cmp (l ∷ t) y ≡ Less) tuples labels (All-weaker (λ m. tuple_cmp (l ∷ []) (m ∷ []) ≡ Less) (λ m. (s : List ℕ) → tuple_cmp (l ∷ t) (m ∷ s) ≡ Less) (λ m less s. first-decides l m t s less) labels later)) tuples))
+    ordered-append (map (λ tuple. l ∷ tuple) tuples) (after_each tuples labels) (ordered-following l tuples in_order)
+    (ordered-after_each tuples labels (rest-ordered (l ∷ []) (map (λ label. label ∷ []) labels) ascending) in_order)
+    (All-map (λ x. All (λ y. tuple_cmp x y ≡ Less) (after_each tuples labels)) (λ tuple. l ∷ tuple) tuples
+    (every (λ t. All (λ y. tuple_cmp (l ∷ t) y ≡ Less) (after_each tuples labels)) (λ t. all-following (λ y. tuple_cmp (l ∷ t) y ≡ Less) tuples labels (All-weaker (λ m. tuple_cmp (l ∷ []) (m ∷ []) ≡ Less) (λ m. (s : List ℕ) → tuple_cmp (l ∷ t) (m ∷ s) ≡ Less) (λ m less s. first-decides l m t s less) labels later)) tuples))
 
 -- the product of ascending lists is in order
 pub ordered-product : (lists : List (List ℕ)) → All AreAscending lists → IsOrdered (tuple_product lists)
 ordered-product [] ascending = ordered-cons [] [] (All-nil (λ y. tuple_cmp [] y ≡ Less)) ordered-nil
 ordered-product (labels ∷ lists) ascending =
-    ordered-behind_each (tuple_product lists) labels (All-head AreAscending labels lists ascending) (ordered-product lists (All-tail AreAscending labels lists ascending))
+    ordered-after_each (tuple_product lists) labels (All-head AreAscending labels lists ascending) (ordered-product lists (All-tail AreAscending labels lists ascending))

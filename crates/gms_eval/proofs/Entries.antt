@@ -267,8 +267,8 @@ module _ {F : Type 0} (v : F → Number) (limit : ℕ) (state : State) (b : Pair
           let first : begins_with t prefix ≡ true = begins (paired sets x) t e in
           let with_prefix : has (those_with given prefix) t ≡ true = has-filter (λ member. begins_with member prefix) given t ∙ ap (λ c. c && begins_with t prefix) kept ∙ first in
           let in_range : has (slice_range given traversal.from traversal.upto) t ≡ true = ap (λ ts. has ts t) range ∙ with_prefix in
-          let at_walk : has (slice_range (given_of state traversal.name) traversal.from traversal.upto) t ≡ true = ap (λ n. has (slice_range (given_of state n) traversal.from traversal.upto) t) same_name ∙ ap (λ ts. has (slice_range ts traversal.from traversal.upto) t) (sym same_given) ∙ in_range in
-          has-flat_map (spread_over state traversal.free.items traversal.places.items) (slice_range (given_of state traversal.name) traversal.from traversal.upto) t x at_walk (spreads x t there e)
+          let at_traversal : has (slice_range (given_of state traversal.name) traversal.from traversal.upto) t ≡ true = ap (λ n. has (slice_range (given_of state n) traversal.from traversal.upto) t) same_name ∙ ap (λ ts. has (slice_range ts traversal.from traversal.upto) t) (sym same_given) ∙ in_range in
+          has-flat_map (spread_over state traversal.free.items traversal.places.items) (slice_range (given_of state traversal.name) traversal.from traversal.upto) t x at_traversal (spreads x t there e)
 
       at_tuple : (x t : List ℕ) → has (elements state sets) x ≡ true → tuple_answer v limit state indices (controlled b sets x) ≡ Ok (Some t) → has (traversed state traversal) x ≡ false → (so : Bool) → is_so (plain_value state name (symbol_of state name).content t) ≡ so → so ≡ false
       at_tuple x t there e out true so = absurd (both_ways (has (traversed state traversal) x) out (stored x t there e so))

@@ -73,8 +73,8 @@ module _ {F : Type 0} where
 
   module _ (b : Pairs) (indices : List (Index F)) (i : ℕ) where
     -- the prefix of the remaining indices
-    abbrev pub front_from : List ℕ
-    front_from = leading_labels b (indices_tree (drop i indices))
+    abbrev pub prefix_from : List ℕ
+    prefix_from = leading_labels b (indices_tree (drop i indices))
 
     beginning-at : (index : Index F) (label : Option ℕ) → i < length indices → index ≡ get_or indices i index → ((rest : tree.Indices F) → leading_labels b (index_tree index rest) ≡ before_others label (leading_labels b rest)) → leading_labels b (indices_tree (drop i indices)) ≡ before_others label (leading_labels b (indices_tree (drop (i + 1) indices)))
     beginning-at index label l at beginning =

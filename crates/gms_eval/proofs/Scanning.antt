@@ -89,19 +89,19 @@ module _ (state : State) (binding : Pairs) (sets : List ℕ) where
 
   -- the traversal of the second condition serves, where the first has no fault
   pub scan-second : (one other : Condition) (first second result : Scan) (traversal : Traversal) → first.safe ≡ true → second.traversal ≡ Some traversal → result.safe ≡ second.safe → result.traversal ≡ Some traversal → IsScan state binding sets one first → IsScan state binding sets other second → IsScan state binding sets (λ b. both (one b) (other b)) result
-  scan-second one other first second result traversal sure has_walk same_safe same_walk known later =
-      let l : Leads state binding sets other traversal = subst (λ w. IfSome w (λ w. Leads state binding sets other w)) has_walk later.leads in
+  scan-second one other first second result traversal sure has_traversal same_safe same_traversal known later =
+      let l : Leads state binding sets other traversal = subst (λ w. IfSome w (λ w. Leads state binding sets other w)) has_traversal later.leads in
       record {
         safe = λ so b. both-ok (one b) (other b) (known.safe sure b) (later.safe (sym same_safe ∙ so) b);
-        leads = subst (λ w. IfSome w (λ w. Leads state binding sets (λ b. both (one b) (other b)) w)) (sym same_walk) (record { few = l.few; range = l.range; within = l.within; counted = l.counted; needed = λ x long out. second-false (one (controlled binding sets x)) (other (controlled binding sets x)) (known.safe sure (controlled binding sets x)) (l.needed x long out) });
+        leads = subst (λ w. IfSome w (λ w. Leads state binding sets (λ b. both (one b) (other b)) w)) (sym same_traversal) (record { few = l.few; range = l.range; within = l.within; counted = l.counted; needed = λ x long out. second-false (one (controlled binding sets x)) (other (controlled binding sets x)) (known.safe sure (controlled binding sets x)) (l.needed x long out) });
       }
 
   -- and else that of the first
   pub scan-first : (one other : Condition) (first second result : Scan) → first.safe ≡ true → result.safe ≡ second.safe → result.traversal ≡ first.traversal → IsScan state binding sets one first → IsScan state binding sets other second → IsScan state binding sets (λ b. both (one b) (other b)) result
-  scan-first one other first second result sure same_safe same_walk known later =
+  scan-first one other first second result sure same_safe same_traversal known later =
       record {
         safe = λ so b. both-ok (one b) (other b) (known.safe sure b) (later.safe (sym same_safe ∙ so) b);
-        leads = subst (λ w. IfSome w (λ w. Leads state binding sets (λ b. both (one b) (other b)) w)) (sym same_walk) (traversal-first first.traversal known.leads);
+        leads = subst (λ w. IfSome w (λ w. Leads state binding sets (λ b. both (one b) (other b)) w)) (sym same_traversal) (traversal-first first.traversal known.leads);
       }
     where
       traversal-first : (traversal : Option Traversal) → IfSome traversal (λ w. Leads state binding sets one w) → IfSome traversal (λ w. Leads state binding sets (λ b. both (one b) (other b)) w)

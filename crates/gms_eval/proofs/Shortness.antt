@@ -267,10 +267,10 @@ module _ {F : Type 0} (state : State) (b : Pairs) (sets : List ℕ) where
 
   -- two conditions, of which the second is examined with the bound of the first
   pub short-both : (bound : ℕ) (one other both : Leading F) (first second result : Scan) → result.bound ≡ second.bound → result.traversal ≡ later_traversal first.traversal second.traversal → ((name : ℕ) (i : tree.Indices F) → both name i → one name i ⊎ other name i) → IsShort state b sets bound one first → IsShort state b sets first.bound other second → IsShort state b sets bound both result
-  short-both bound one other both first second result same_bound same_walk parts s t =
+  short-both bound one other both first second result same_bound same_traversal parts s t =
       record {
         below = omega (arith, same_bound, s.below, t.below);
-        comes = subst (IsBounded bound result.bound) (sym same_walk) (subst (λ n. IsBounded bound n (later_traversal first.traversal second.traversal)) (sym same_bound) (comes-both first.traversal second.traversal bound first.bound second.bound t.below s.comes t.comes));
+        comes = subst (IsBounded bound result.bound) (sym same_traversal) (subst (λ n. IsBounded bound n (later_traversal first.traversal second.traversal)) (sym same_bound) (comes-both first.traversal second.traversal bound first.bound second.bound t.below s.comes t.comes));
         fewest = λ name i leads. elim (parts name i leads) [
           | inl here ↦ omega (arith, same_bound, t.below, s.fewest name i here)
           | inr there ↦ omega (arith, same_bound, t.fewest name i there)
@@ -294,8 +294,8 @@ module _ {F : Type 0} (state : State) (b : Pairs) (sets : List ℕ) where
         }
 
     -- and one that it does not
-    pub short-no_walk : scan.traversal ≡ None → scan.bound ≡ bound → (length indices ≤ 10 → bound ≤ reach state b sets name (indices_tree indices)) → IsShort state b sets bound (IsBareReference name (indices_tree indices)) scan
-    short-no_walk none same le =
+    pub short-no_traversal : scan.traversal ≡ None → scan.bound ≡ bound → (length indices ≤ 10 → bound ≤ reach state b sets name (indices_tree indices)) → IsShort state b sets bound (IsBareReference name (indices_tree indices)) scan
+    short-no_traversal none same le =
         record {
           below = omega (arith, same);
           comes = subst (IsBounded bound scan.bound) (sym none) (let more : bound ≤ scan.bound = omega (arith, same) in more);

@@ -136,7 +136,7 @@ module _ {F : Type 0} (value : F → Number) (limit : ℕ) (rules : List SolverR
   still-answered : (e : means.Event) → IsAnswered value limit rules answers e → IsAnswered value limit rules (answers ++ fresh) e
   still-answered (means.displays line items) is = tt
   still-answered (means.solves solved) is =
-      record { lp = is.lp; shows = is.shows; answer = is.answer; stands = get-prefix answers fresh solved.answer is.answer is.stands; rule = is.rule; chosen = is.chosen; is_answer = is.is_answer }
+      record { lp = is.lp; shows = is.shows; answer = is.answer; occurs = get-prefix answers fresh solved.answer is.answer is.occurs; rule = is.rule; chosen = is.chosen; is_answer = is.is_answer }
   still-answered (means.aborts line items) is = tt
   still-answered (means.stops fault) is = tt
 
@@ -146,7 +146,7 @@ module _ {F : Type 0} (value : F → Number) (limit : ℕ) (rules : List SolverR
   paths-stay k (event.Display line items ∷ shown) are = paths-stay k shown (All-tail (IsAnswered value limit rules answers) (event_in value (event.Display line items)) (events_in value shown) are)
   paths-stay k (event.Solve line model equations lp answer solver settings level ∷ shown) are =
       let is = All-head (IsAnswered value limit rules answers) (event_in value (event.Solve line model equations lp answer solver settings level)) (events_in value shown) are in
-      ap (λ o. cond (settings.solver == k) (option_to_list (option_map (λ (a : Answer F). a.pivots) o)) [] ++ paths_taken k (answers ++ fresh) shown) (get-prefix answers fresh answer is.answer is.stands ∙ sym is.stands)
+      ap (λ o. cond (settings.solver == k) (option_to_list (option_map (λ (a : Answer F). a.pivots) o)) [] ++ paths_taken k (answers ++ fresh) shown) (get-prefix answers fresh answer is.answer is.occurs ∙ sym is.occurs)
       ∙ ap (λ paths. cond (settings.solver == k) (option_to_list (option_map (λ (a : Answer F). a.pivots) (slice_get answers answer))) [] ++ paths) (paths-stay k shown (All-tail (IsAnswered value limit rules answers) (event_in value (event.Solve line model equations lp answer solver settings level)) (events_in value shown) are))
   paths-stay k (event.Abort line items ∷ shown) are = paths-stay k shown (All-tail (IsAnswered value limit rules answers) (event_in value (event.Abort line items)) (events_in value shown) are)
   paths-stay k (event.Fault stop ∷ shown) are = paths-stay k shown (All-tail (IsAnswered value limit rules answers) (event_in value (event.Fault stop)) (events_in value shown) are)

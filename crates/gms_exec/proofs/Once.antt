@@ -176,7 +176,7 @@ record Reaches (state : State) (binding : Pairs) (set : ℕ) (op : LagOp) (x : E
   places : ℤ
   amount : whole_number x ≡ Some places
   label : ℕ
-  stands : label_of binding set ≡ Some label
+  occurs : label_of binding set ≡ Some label
   place : ℕ
   at : place_of_tuple (members_of state set) (label ∷ []) ≡ Some place
   reaches : moved (members_of state set) op places (pos place) ≡ Some h
@@ -188,12 +188,12 @@ reaches-from : (state : State) (binding : Pairs) (set : ℕ) (op : LagOp) (at : 
 reaches-from state binding set op at x h e = by (whole_number x) refl e
   where
     third : (places : ℤ) → whole_number x ≡ Some places → (label : ℕ) → label_of binding set ≡ Some label → (o : Option ℕ) → place_of_tuple (members_of state set) (label ∷ []) ≡ o → option_and_then (λ place. moved (members_of state set) op places (pos place)) o ≡ Some h → Reaches state binding set op x h
-    third places amount label stands None none e = absurd cc
-    third places amount label stands (Some place) found e = record {
+    third places amount label occurs None none e = absurd cc
+    third places amount label occurs (Some place) found e = record {
       places = places;
       amount = amount;
       label = label;
-      stands = stands;
+      occurs = occurs;
       place = place;
       at = found;
       reaches = e;
@@ -201,7 +201,7 @@ reaches-from state binding set op at x h e = by (whole_number x) refl e
 
     second : (places : ℤ) → whole_number x ≡ Some places → (o : Option ℕ) → label_of binding set ≡ o → option_and_then (λ label. lagged_label (members_of state set) op places label) o ≡ Some h → Reaches state binding set op x h
     second places amount None none e = absurd cc
-    second places amount (Some label) stands e = third places amount label stands (place_of_tuple (members_of state set) (label ∷ [])) refl e
+    second places amount (Some label) occurs e = third places amount label occurs (place_of_tuple (members_of state set) (label ∷ [])) refl e
 
     by : (o : Option ℤ) → whole_number x ≡ o → (ok_or o (faulted LagNotWhole at binding x nothing) and_then λ places. Ok (option_and_then (λ label. lagged_label (members_of state set) op places label) (label_of binding set))) ≡ Ok (Some h) → Reaches state binding set op x h
     by None none e = absurd cc
@@ -217,7 +217,7 @@ reaches-same state one other set op x y h simple same a b =
     let at : a.place ≡ b.place = moved-same members simple.0 simple.1 op b.places a.place b.place h (place-below members (a.label ∷ []) a.place a.at) (place-below members (b.label ∷ []) b.place b.at) (sym (ap (λ z. moved members op z (pos a.place)) places) ∙ a.reaches) b.reaches in
     let tuples : a.label ∷ [] ≡ b.label ∷ [] = sym (place-member members (a.label ∷ []) a.place a.at) ∙ ap (λ n. get_or members n []) at ∙ place-member members (b.label ∷ []) b.place b.at in
     let labels : a.label ≡ b.label = cc in
-    a.stands ∙ ap Some labels ∙ sym b.stands
+    a.occurs ∙ ap Some labels ∙ sym b.occurs
 
 -- ---- answers
 
@@ -348,20 +348,20 @@ element-same (s ∷ sets) (x ∷ one) (y ∷ other) long same apart alike =
 
 -- ---- the elements of a domain
 
-abbrev StandOnce : List (List ℕ) → Type 0
-StandOnce [] = Unit {0}
-StandOnce (t ∷ ts) = (has ts t ≡ false) × StandOnce ts
+abbrev OccurOnce : List (List ℕ) → Type 0
+OccurOnce [] = Unit {0}
+OccurOnce (t ∷ ts) = (has ts t ≡ false) × OccurOnce ts
 
-ordered-once : (ts : List (List ℕ)) → IsOrdered ts → StandOnce ts
+ordered-once : (ts : List (List ℕ)) → IsOrdered ts → OccurOnce ts
 ordered-once [] ordered = tt
 ordered-once (t ∷ ts) ordered = (not-following t ts ordered, ordered-once ts (rest-ordered t ts ordered))
 
 -- Some of these tuples, without repetition.
 record AreSome (all es : List (List ℕ)) : Type 0 where
-  once : StandOnce es
+  once : OccurOnce es
   among : (e : List ℕ) → has es e ≡ true → has all e ≡ true
 
-some-where : (test : List ℕ → Answer Bool) (all es : List (List ℕ)) → those_where test all ≡ Ok es → StandOnce all → AreSome all es
+some-where : (test : List ℕ → Answer Bool) (all es : List (List ℕ)) → those_where test all ≡ Ok es → OccurOnce all → AreSome all es
 some-where test [] es e once =
     subst (AreSome []) (only_value [] es e) (record { once = tt; among = λ e there. there })
 some-where test (x ∷ all) es e once =
@@ -394,7 +394,7 @@ module _ {F : Type 0} (v : F → Number) (limit : ℕ) (state : State) (binding 
       by true e = absurd cc
       by false e = only_value all es e
 
-  domain-some : (sets : List ℕ) (condition : Option (tree.Tree F)) (es : List (List ℕ)) → StandOnce (elements state sets) → domain v limit state binding at (control_over sets condition) ≡ Ok es → AreSome (elements state sets) es
+  domain-some : (sets : List ℕ) (condition : Option (tree.Tree F)) (es : List (List ℕ)) → OccurOnce (elements state sets) → domain v limit state binding at (control_over sets condition) ≡ Ok es → AreSome (elements state sets) es
   domain-some sets None es once e =
       subst (AreSome (elements state sets)) (sized-all (elements state sets) es e) (record { once = once; among = λ e there. there })
   domain-some sets (Some condition) es once e =
@@ -428,7 +428,7 @@ module _ {F : Type 0} (v : F → Number) (limit : ℕ) (state : State) (answer :
             sym each.0.1 ∙ ap (has es) (sym e) ∙ none
         by false apart = refl
 
-    each-once : (es : List (List ℕ)) (ys : List (Option (List ℕ × Given))) → StandOnce es → in_order (map answer es) ≡ Ok ys → AllByRecursion (IsOf es) (given_elements v limit state ys) × IsOnce (given_elements v limit state ys)
+    each-once : (es : List (List ℕ)) (ys : List (Option (List ℕ × Given))) → OccurOnce es → in_order (map answer es) ≡ Ok ys → AllByRecursion (IsOf es) (given_elements v limit state ys) × IsOnce (given_elements v limit state ys)
     unfolding IsDistinct
     each-once [] ys once e =
         subst (λ ys. AllByRecursion (IsOf []) (given_elements v limit state ys) × IsOnce (given_elements v limit state ys)) (only_value [] ys e) (tt, tt)

@@ -77,8 +77,8 @@ module _ {F : Type 0} (value : F → Number) (limit : ℕ) where
     abbrev shown_event : Event F
     shown_event = event.Solve at.line model equations lp (length old.answers) (slice_index_or names old.state.settings.solver []) old.state.settings is.shows.level
 
-    answer-stands : slice_get new.answers (length old.answers) ≡ Some is.answer
-    answer-stands = ap (λ xs. slice_get xs (length old.answers)) is.shows.answers ∙ get-last old.answers is.answer
+    answer-occurs : slice_get new.answers (length old.answers) ≡ Some is.answer
+    answer-occurs = ap (λ xs. slice_get xs (length old.answers)) is.shows.answers ∙ get-last old.answers is.answer
 
     -- the event that a run shows in a state after the solve
     abbrev event_with : Number → means.Event
@@ -121,14 +121,14 @@ module _ {F : Type 0} (value : F → Number) (limit : ℕ) where
           shown = shown_event ∷ [];
           events = is.shows.events;
           valid =
-              All-cons (IsValidEvent value limit rules new.answers) shown_event [] (record { formed = formed; given = is.answer; stands = answer-stands; rule = is.is_answer.rule; chosen = is.is_answer.chosen; is_answer = is.is_answer.is_answer })
+              All-cons (IsValidEvent value limit rules new.answers) shown_event [] (record { formed = formed; given = is.answer; occurs = answer-occurs; rule = is.is_answer.rule; chosen = is.is_answer.chosen; is_answer = is.is_answer.is_answer })
               (All-nil (IsValidEvent value limit rules new.answers));
         }
 
     path-taken : (k : ℕ) → path_at old.state.settings.solver is.answer.pivots k ≡ paths_taken k new.answers (shown_event ∷ [])
     path-taken k =
         sym (append-nil (path_at old.state.settings.solver is.answer.pivots k))
-        ∙ ap (λ (o : Option (Answer F)). cond (old.state.settings.solver == k) (option_to_list (option_map (λ (a : Answer F). a.pivots) o)) [] ++ []) (sym answer-stands)
+        ∙ ap (λ (o : Option (Answer F)). cond (old.state.settings.solver == k) (option_to_list (option_map (λ (a : Answer F). a.pivots) o)) [] ++ []) (sym answer-occurs)
 
     module _ {S : Type 0} (name : S → List ℕ) (rule : S → SolverRule) (paths : S → List (List Pivot)) (old_solvers new_solvers : List S) where
       pub solves-answered : rules ≡ map rule old_solvers → old_paths ≡ map paths old_solvers → new_paths ≡ map paths new_solvers → map name new_solvers ≡ map name old_solvers → map rule new_solvers ≡ map rule old_solvers → Answered value limit name rule paths old_solvers new_solvers old new
@@ -139,7 +139,7 @@ module _ {F : Type 0} (value : F → Number) (limit : ℕ) where
             shown = shown_event ∷ [];
             events = is.shows.events;
             answered =
-                All-cons (IsAnswered value limit (map rule old_solvers) new.answers) (event_in value shown_event) [] (record { lp = lp; shows = refl; answer = is.answer; stands = answer-stands; rule = is.is_answer.rule; chosen = ap (λ rs. slice_get rs old.state.settings.solver) (sym are) ∙ is.is_answer.chosen; is_answer = is.is_answer.is_answer })
+                All-cons (IsAnswered value limit (map rule old_solvers) new.answers) (event_in value shown_event) [] (record { lp = lp; shows = refl; answer = is.answer; occurs = answer-occurs; rule = is.is_answer.rule; chosen = ap (λ rs. slice_get rs old.state.settings.solver) (sym are) ∙ is.is_answer.chosen; is_answer = is.is_answer.is_answer })
                 (All-nil (IsAnswered value limit (map rule old_solvers) new.answers));
             extended = λ k.
                 ap (λ ps. slice_get ps k) (sym new_are)

@@ -18,11 +18,11 @@ module _ {F : Type 0} (value : F → Number) (limit : ℕ) (rules : List SolverR
   one_answered (event.Abort line items) is = tt
   one_answered (event.Fault stop) is = tt
   one_answered (event.Solve line model equations lp answer solver settings level) is =
-      record { lp = lp; shows = refl; answer = is.given; stands = is.stands; rule = is.rule; chosen = is.chosen; is_answer = is.is_answer }
+      record { lp = lp; shows = refl; answer = is.given; occurs = is.occurs; rule = is.rule; chosen = is.chosen; is_answer = is.is_answer }
 
   -- Each valid event is answered.
-  pub answered_by_standing : (shown : List (Event F)) → All (IsValidEvent value limit rules answers) shown → AreAnswered value limit rules answers (events_in value shown)
-  answered_by_standing [] is = All-nil (IsAnswered value limit rules answers)
-  answered_by_standing (e ∷ shown) is =
+  pub answered_by_valid : (shown : List (Event F)) → All (IsValidEvent value limit rules answers) shown → AreAnswered value limit rules answers (events_in value shown)
+  answered_by_valid [] is = All-nil (IsAnswered value limit rules answers)
+  answered_by_valid (e ∷ shown) is =
       All-cons (IsAnswered value limit rules answers) (event_in value e) (events_in value shown) (one_answered e (All-head (IsValidEvent value limit rules answers) e shown is))
-      (answered_by_standing shown (All-tail (IsValidEvent value limit rules answers) e shown is))
+      (answered_by_valid shown (All-tail (IsValidEvent value limit rules answers) e shown is))

@@ -31,7 +31,7 @@ module _ {F : Type 0} (value : F → Number) (limit : ℕ) (rules : List SolverR
   still-valid answers fresh (event.Abort line items) is = is
   still-valid answers fresh (event.Fault stop) is = tt
   still-valid answers fresh (event.Solve line model equations lp answer solver settings level) is =
-      record { formed = is.formed; given = is.given; stands = get-prefix answers fresh answer is.given is.stands; rule = is.rule; chosen = is.chosen; is_answer = is.is_answer }
+      record { formed = is.formed; given = is.given; occurs = get-prefix answers fresh answer is.given is.occurs; rule = is.rule; chosen = is.chosen; is_answer = is.is_answer }
 
   -- a call after another, with further answers
   pub valid-both : (first_answers last_answers fresh : List (Answer F)) (old mid new : List (Event F)) → last_answers ≡ first_answers ++ fresh → ShowsValidEvents value limit rules first_answers old mid → ShowsValidEvents value limit rules last_answers mid new → ShowsValidEvents value limit rules last_answers old new

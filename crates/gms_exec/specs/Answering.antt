@@ -17,7 +17,7 @@ pub record IsSolved {F : Type 0} (value : F → Number) (limit : ℕ) (rules : L
   pub lp : Lp F
   pub shows : lp_numbers value lp ≡ solved.lp
   pub answer : Answer F
-  pub stands : slice_get answers solved.answer ≡ Some answer
+  pub occurs : slice_get answers solved.answer ≡ Some answer
   pub rule : SolverRule
   pub chosen : slice_get rules solved.settings.solver ≡ Some rule
   pub is_answer : IsAnswerUnder value limit lp solved.settings.iterlim rule answer

@@ -18,7 +18,7 @@ module _ {F : Type 0} (value : F → Number) (limit : ℕ) (rules : List SolverR
   pub record IsValidSolve (lp : Lp F) (place : ℕ) (settings : Settings) : Type 0 where
     pub formed : IsWellFormed value lp
     pub given : Answer F
-    pub stands : slice_get answers place ≡ Some given
+    pub occurs : slice_get answers place ≡ Some given
     pub rule : SolverRule
     pub chosen : slice_get rules settings.solver ≡ Some rule
     pub is_answer : IsAnswerUnder value limit lp settings.iterlim rule given

@@ -34,15 +34,15 @@ use Rattle.gms_expressions.proofs.Nexts.{exact}
 abbrev is_named : Terminal → Bool
 is_named = is_terminal_among (Name ∷ Suffix ∷ [])
 
-same_walk : (unclosed : ℕ) (new : Tables) (names labels : List (List ℕ)) → new.names ≡ names → new.labels ≡ labels →
+same_read_state : (unclosed : ℕ) (new : Tables) (names labels : List (List ℕ)) → new.names ≡ names → new.labels ≡ labels →
     read_state_of unclosed new ≡ record { open_count = unclosed; names = names; labels = labels; dotted = false }
-same_walk unclosed new names labels e f =
+same_read_state unclosed new names labels e f =
     ap (λ (ns : List (List ℕ)). read_state_of unclosed (record { names = ns; labels = new.labels })) e ∙ ap (λ (ls : List (List ℕ)). read_state_of unclosed (record { names = names; labels = ls })) f
 
 name_after : (source : List ℕ) (unclosed : ℕ) (old new : Tables) (kind : Terminal) (token : Token) → is_named kind ≡ true → new.names ≡ entered old.names (token_text source token) → new.labels ≡ old.labels →
     read_state_of unclosed new ≡ state_after_token source (read_state_of unclosed old) (kind, token)
-name_after source unclosed old new Name token h e f = same_walk unclosed new _ _ e f
-name_after source unclosed old new Suffix token h e f = same_walk unclosed new _ _ e f
+name_after source unclosed old new Name token h e f = same_read_state unclosed new _ _ e f
+name_after source unclosed old new Suffix token h e f = same_read_state unclosed new _ _ e f
 name_after source unclosed old new _ token h e f = cc
 
 name_sound : (limit : ℕ) (source : List ℕ) (w : ExpressionState) (kind : Terminal) (token : Token) → is_named kind ≡ true → (IsFullFor w.names (token_text source token) → ⊥) → (fault : SyntaxFault) → IsFaultyInExpression limit source w (kind, token) fault → ⊥
@@ -89,7 +89,7 @@ module _ {limit : ℕ} {reader : Reader} {at following : ℕ} {quoted : Token} (
   -- a label was entered, and has this number
   pub label_got : (new : Tables) (number : ℕ) → new.names ≡ old.names → new.labels ≡ entered old.labels (unquoted (token_text reader.source.now quoted)) → (IsFullFor old.labels (unquoted (token_text reader.source.now quoted)) → ⊥) →
       place_of new.labels (unquoted (token_text reader.source.now quoted)) ≡ Some number → IsGot limit (IsLabel reader.source.now) (token Text) reader at old new number following
-  label_got new number e f within_bound place = got_by (gives_one (exact n) refl (label_sound within_bound) (same_walk reader.unclosed new _ _ e f)) (λ sense s. sym (ap or_0 (s.labels (unquoted (token_text reader.source.now quoted)) number place)))
+  label_got new number e f within_bound place = got_by (gives_one (exact n) refl (label_sound within_bound) (same_read_state reader.unclosed new _ _ e f)) (λ sense s. sym (ap or_0 (s.labels (unquoted (token_text reader.source.now quoted)) number place)))
       (let g = n.further in omega arith)
 
   pub label_refused : {last : Tables} {e : SyntaxFaultOrMemory} → IsFullFor old.labels (unquoted (token_text reader.source.now quoted)) → e ≡ Fault (record { error = TooManyLabels; at = quoted.at }) → Went (read_state_of reader.unclosed old) last → Refuses limit reader.source.now (token Text) last (read_state_of reader.unclosed old) (seen_from reader at) e

@@ -35,11 +35,11 @@ gives_next {limit = limit} {test = test} {reader = reader} {token = token} table
     gives_one n.is n.passes (plain_sound limit reader.source.now (read_state_of reader.unclosed tables) n.kind token k) (sym (plain_after reader.source.now reader.unclosed tables n.kind token k))
 
 -- another token is expected
-pub lacking_behind : {limit : ℕ} {test : Terminal → Bool} {reader : Reader} {at : ℕ} {tables : Tables} {w : ExpressionState} {e : SyntaxFaultOrMemory} → Went w tables → IsLacking test reader at e → Refuses limit reader.source.now (one test) tables w (seen_from reader at) e
-lacking_behind went l = refuses_at went (refused l.not_led) l.is
+pub lacking_after : {limit : ℕ} {test : Terminal → Bool} {reader : Reader} {at : ℕ} {tables : Tables} {w : ExpressionState} {e : SyntaxFaultOrMemory} → Went w tables → IsLacking test reader at e → Refuses limit reader.source.now (one test) tables w (seen_from reader at) e
+lacking_after went l = refuses_at went (refused l.not_led) l.is
 
 pub refuses_lacking : {limit : ℕ} {test : Terminal → Bool} {reader : Reader} {at unclosed : ℕ} {tables : Tables} {e : SyntaxFaultOrMemory} → IsLacking test reader at e → Refuses limit reader.source.now (one test) tables (read_state_of unclosed tables) (seen_from reader at) e
-refuses_lacking {tables = tables} l = lacking_behind (went_same tables) l
+refuses_lacking {tables = tables} l = lacking_after (went_same tables) l
 
 -- the next token leads into a part that begins with it
 pub leads_next : {test : Terminal → Bool} {reader : Reader} {at following : ℕ} {token : Token} (q : GamsPart) → IsNext test reader at token following → leads productions look_ahead (one test · q) (seen_from reader at) ≡ true

@@ -53,9 +53,9 @@ module _ {F : Type 0} {value : F → Number} {limit : ℕ} {reader : Reader} {at
   got_the n got shape = got_by (gives_the n got.gives) (λ sense k. record { is = (got.means sense k).is ∙ sym (shape sense) }) got.further
 
   -- what was read after a token
-  pub got_behind : {test : Terminal → Bool} {sub : GamsPart} {start : ℕ} {t : Token} (n : IsNext test reader at t start) → implies test is_plain ≡ true → (got : IsGot limit (IsMeant value reader.source.now inner) sub reader start old new e next) →
+  pub got_after : {test : Terminal → Bool} {sub : GamsPart} {start : ℕ} {t : Token} (n : IsNext test reader at t start) → implies test is_plain ≡ true → (got : IsGot limit (IsMeant value reader.source.now inner) sub reader start old new e next) →
       ((sense : Sense) → in_sense reader.source.now whole sense (pair (leaf (n.kind, t)) got.tree) ≡ in_sense reader.source.now inner sense got.tree) → IsGot limit (IsMeant value reader.source.now whole) (one test · sub) reader at old new e next
-  got_behind {t = t} n plain got shape = got_by (gives_both (gives_next old n plain) got.gives) (λ sense k. record { is = (got.means sense k).is ∙ sym (shape sense) }) (let f = got.further in let g = n.further in omega arith)
+  got_after {t = t} n plain got shape = got_by (gives_both (gives_next old n plain) got.gives) (λ sense k. record { is = (got.means sense k).is ∙ sym (shape sense) }) (let f = got.further in let g = n.further in omega arith)
 
   -- what was read of one alternative
   pub got_left : {p q : GamsPart} → leads productions look_ahead p (seen_from reader at) ≡ true → (got : IsGot limit (IsMeant value reader.source.now inner) p reader at old new e next) →

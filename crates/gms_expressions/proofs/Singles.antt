@@ -28,7 +28,7 @@ use Rattle.gms_expressions.specs.Outcomes.{ExpressionState, IsFaultyInExpression
 use Rattle.gms_expressions.specs.InnerReadings.{Seen, Gives, Refuses, IsGot, IsNext, IsLacking, IsUnopened, IsSigned, IsNegated, IsSuffix, seen_from, read_state_of, kind_of}
 use Rattle.gms_expressions.proofs.TokenKinds.{leads_by_kind, same_test}
 use Rattle.gms_expressions.proofs.Steps.{got_by, gives_one, gives_the, gives_both, gives_none, gives_some, refuses_the, refuses_second, refuses_some, refuses_token, takes_next}
-use Rattle.gms_expressions.proofs.Nexts.{gives_next, led_next, exact, lacking_behind, refuses_lacking}
+use Rattle.gms_expressions.proofs.Nexts.{gives_next, led_next, exact, lacking_after, refuses_lacking}
 use Rattle.gms_expressions.proofs.Extending.{went_same}
 
 -- a sign, and none
@@ -105,7 +105,7 @@ suffix_got limit tables {reader = reader} {at = at} {dot = dot} {word = word} fo
 pub suffix_refused : (limit : ℕ) (tables : Tables) {reader : Reader} {at middle : ℕ} {dot : Token} {e : SyntaxFaultOrMemory} → IsNext (is Dot) reader at dot middle → IsLacking (is Suffix) reader middle e →
     Refuses limit reader.source.now (opt (the Attribute)) tables (read_state_of reader.unclosed tables) (seen_from reader at) e
 unfolding dotted
-suffix_refused limit tables {reader = reader} {at = at} n l = refuses_some (leads_attribute (seen_from reader at) ∙ led_next n) (refuses_the Attribute (refuses_second (gives_dot tables n) (lacking_behind (went_same tables) l)))
+suffix_refused limit tables {reader = reader} {at = at} n l = refuses_some (leads_attribute (seen_from reader at) ∙ led_next n) (refuses_the Attribute (refuses_second (gives_dot tables n) (lacking_after (went_same tables) l)))
 
 -- a number that was not read fits no literal
 pub none_fits : {F : Type 0} (limit : ℕ) (value : F → Number) (text : List ℕ) (e : NumberFault) → ReadsLiteral {F = F} limit value text (Err e) → (x : Number) → MeansNumber text x → FitsLiteral limit x → ⊥

@@ -26,13 +26,13 @@ also test other h kind k = implied (test kind) (other kind) (all_kinds (λ kind.
 pub same_test : (test other : Terminal → Bool) → every terminals (λ kind. alike (test kind) (other kind)) ≡ true → (kind : Terminal) → test kind ≡ other kind
 same_test test other h kind = is_alike _ _ (all_kinds (λ kind. alike (test kind) (other kind)) h kind)
 
-stands_at : (kind : Terminal) → get_or terminals (terminal_number kind) Abort ≡ kind
-stands_at Abort = refl
-stands_at _ = refl
+occurs_at : (kind : Terminal) → get_or terminals (terminal_number kind) Abort ≡ kind
+occurs_at Abort = refl
+occurs_at _ = refl
 
 -- kinds of the same number are the same
 pub same_number : (a b : Terminal) → terminal_number a ≡ terminal_number b → a ≡ b
-same_number a b e = sym (stands_at a) ∙ ap (λ n. get_or terminals n Abort) e ∙ stands_at b
+same_number a b e = sym (occurs_at a) ∙ ap (λ n. get_or terminals n Abort) e ∙ occurs_at b
 
 -- the kind of the first token determines whether tokens lead into a part
 pub leads_by_kind : (part : GamsPart) (tokens : List Seen) → may_begin look_ahead part End ≡ false → leads productions look_ahead part tokens ≡ may_begin look_ahead part (kind_of tokens)

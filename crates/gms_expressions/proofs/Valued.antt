@@ -7,7 +7,7 @@ use Rattle.std.proofs.lemmas.Bool.Decides.{eqb_tells}
 use Rattle.gq_text.specs.Numeral.{AreDigits, spelled}
 use Rattle.gq_text.specs.Decimal.{Decimal, number_of, IsSomeDigits, IsSigned, IsExponent, MeansNumber}
 use Rattle.gq_text.specs.InnerParts.{BeginsNoDigit, SplitsDigits, Divides, SplitsSign, exponent_of}
-use Rattle.gq_text.proofs.Splits.{counted_digits, all_in_front, signed_digits as only_digits, IsSigned_from, Divides-from, Spells-from, one_division}
+use Rattle.gq_text.proofs.Splits.{counted_digits, all_in_prefix, signed_digits as only_digits, IsSigned_from, Divides-from, Spells-from, one_division}
 use Rattle.gq_text.proofs.Readings.{no_digits, no_power}
 use Rattle.gms_expressions.specs.Valuations.{IsValuation, leading_digits, after_digits, point_digits, after_point, signed_digits, exponent_in, number_meant}
 
@@ -18,9 +18,9 @@ Told {X} P = ((x : X) × P x) ⊎ ((x : X) → ¬ P x)
 -- ---- exponents
 
 digits_told : (text digits rest : List ℕ) → SplitsDigits text digits rest → IsSomeDigits text ⊎ (¬ IsSomeDigits text)
-digits_told text [] rest p = inr (λ h. let prefix = all_in_front text [] rest p h.0 in let none : 0 ≡ length text = ap length prefix.0 in absurd (omega (arith, h.1)))
+digits_told text [] rest p = inr (λ h. let prefix = all_in_prefix text [] rest p h.0 in let none : 0 ≡ length text = ap length prefix.0 in absurd (omega (arith, h.1)))
 digits_told text (b ∷ bs) [] p = inl (subst (λ l. IsSomeDigits l) (sym (p.text_is ∙ append-nil (b ∷ bs))) (p.are_digits, omega arith))
-digits_told text (b ∷ bs) (c ∷ cs) p = inr (λ h. let prefix = all_in_front text (b ∷ bs) (c ∷ cs) p h.0 in let none : length (c ∷ cs) ≡ 0 = ap length prefix.1 in absurd (omega arith))
+digits_told text (b ∷ bs) (c ∷ cs) p = inr (λ h. let prefix = all_in_prefix text (b ∷ bs) (c ∷ cs) p h.0 in let none : length (c ∷ cs) ≡ 0 = ap length prefix.1 in absurd (omega arith))
 
 -- a text with an optional sign before it, and its whole number
 record SignTold (text : List ℕ) : Type 0 where
@@ -131,4 +131,4 @@ unfolding number_meant
 number_in_is text x m =
     let same = one_division text (leading_digits text) (point_digits (after_digits text)) (after_point (after_digits text)) m.0.before m.0.following m.1.power (divides text) (Divides-from text m.0 m.1) in
     let power = exponent_is (after_point (after_digits text)) m.0.exponent (subst (λ (r : List ℕ). IsExponent r m.0.exponent) (sym same.same_rest) m.1.power_is) in
-    ap (λ (d : Decimal). number_of d) (ap₂ (λ (x : List ℕ × List ℕ) (e : ℤ). record { before = x.0; following = x.1; exponent = e }) (ap₂ (λ (a : List ℕ) (b : List ℕ). (a, b)) same.same_before same.same_behind) power) ∙ sym m.2
+    ap (λ (d : Decimal). number_of d) (ap₂ (λ (x : List ℕ × List ℕ) (e : ℤ). record { before = x.0; following = x.1; exponent = e }) (ap₂ (λ (a : List ℕ) (b : List ℕ). (a, b)) same.same_before same.same_after) power) ∙ sym m.2

@@ -8,9 +8,9 @@ pub failed : {A E : Type 0} (old new text : List ℕ) (result : Result A E) → 
 failed old new text (Ok x) is begins = cc
 failed old new text (Err e) is begins = begins
 
-pub front_of : {A E : Type 0} (old new text : List ℕ) (result : Result A E) → IsErr result → Appends result old new text → IsExtendedByPrefix old text new
-front_of old new text (Ok x) is appended = cc
-front_of old new text (Err e) is appended = appended
+pub prefix_of : {A E : Type 0} (old new text : List ℕ) (result : Result A E) → IsErr result → Appends result old new text → IsExtendedByPrefix old text new
+prefix_of old new text (Ok x) is appended = cc
+prefix_of old new text (Err e) is appended = appended
 
 pub some_blanks : (few many : ℕ) (old new : List ℕ) → few ≤ many → new ≡ old ++ blanks few → IsExtendedByPrefix old (blanks many) new
 some_blanks few many old new fewer e =

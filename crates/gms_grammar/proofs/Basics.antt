@@ -8,11 +8,11 @@ both_ways a h k = cc
 
 module _ {T : Type 0} where
   -- what follows the same prefix is the same
-  pub behind_same : (u v w : List T) → u ++ v ≡ u ++ w → v ≡ w
-  behind_same [] v w e = e
-  behind_same (x ∷ u) v w e =
+  pub after_same : (u v w : List T) → u ++ v ≡ u ++ w → v ≡ w
+  after_same [] v w e = e
+  after_same (x ∷ u) v w e =
       let h : u ++ v ≡ u ++ w = cc in
-      behind_same u v w h
+      after_same u v w h
 
   -- no list is itself followed by more
   pub not_longer : (u : List T) (x : T) (w : List T) → u ≡ u ++ (x ∷ w) → ⊥

@@ -4,7 +4,7 @@ use Rattle.gms_grammar.specs.Grammar.{Part, one, the, ◌·◌, ◌∣◌, opt, 
 use Rattle.gms_grammar.specs.LookAhead.{LookAhead, may_begin, may_come_next, IsDecided, DecidesEach}
 use Rattle.gms_grammar.specs.Reading.{read, Reads, taken, entered, both, in_left, in_right, left_out, there, no_more, again}
 use Rattle.gms_grammar.proofs.Basics.{end_nil}
-use Rattle.gms_grammar.proofs.Starts.{Follows, starts, follows_part, follows_more, led, not_led, not_led_behind}
+use Rattle.gms_grammar.proofs.Starts.{Follows, starts, follows_part, follows_more, led, not_led, not_led_after}
 use Rattle.gms_grammar.proofs.Only.{only}
 
 module _ {C N D : Type 0} (production : N → Part C N) (ahead : LookAhead C N) (ok : DecidesEach ahead production) where
@@ -24,10 +24,10 @@ module _ {C N D : Type 0} (production : N → Part C N) (ahead : LookAhead C N) 
       let first = starts production ahead ok q tree h in
       in_right (not_led production ahead ok p q (yield tree) following first d.1 d.2) (led production ahead ok q (yield tree) following first d.1)
       (complete q tree h after following d.4 f)
-  complete (opt p) none h after following d f = left_out (not_led_behind production ahead ok p after following f d.1)
+  complete (opt p) none h after following d f = left_out (not_led_after production ahead ok p after following f d.1)
   complete (opt p) (some tree) h after following d f =
       there (led production ahead ok p (yield tree) following (starts production ahead ok p tree h) d.0) (complete p tree h after following d.2 f)
-  complete (many p) none h after following d f = no_more (not_led_behind production ahead ok p after following f d.1)
+  complete (many p) none h after following d f = no_more (not_led_after production ahead ok p after following f d.1)
   complete (many p) (more a b) h after following d f =
       subst (λ w. Reads production ahead (many p) w (read (more a b) following)) (sym (append_assoc (yield a) (yield b) following))
       (again (led production ahead ok p (yield a) (yield b ++ following) (starts production ahead ok p a h.0) d.0)

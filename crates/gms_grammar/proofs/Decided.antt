@@ -9,9 +9,9 @@ use Rattle.gms_grammar.specs.GamsGrammar.{Nonterminal, Expression, productions}
 use Rattle.gms_grammar.specs.GamsLookAhead.{firsts, follows, look_ahead}
 use Rattle.gms_grammar.proofs.Checks.{every, every_at, right_and, Covers, IsRight, decides_each}
 
-stands_at : (kind : Terminal) → get_or terminals (terminal_number kind) Abort ≡ kind
-stands_at Abort = refl
-stands_at _ = refl
+occurs_at : (kind : Terminal) → get_or terminals (terminal_number kind) Abort ≡ kind
+occurs_at Abort = refl
+occurs_at _ = refl
 
 is_below : (kind : Terminal) → ltb (terminal_number kind) (length terminals) ≡ true
 is_below Abort = refl
@@ -20,10 +20,10 @@ is_below _ = refl
 -- what holds of each kind of the list holds of each kind
 pub all_kinds : (test : Terminal → Bool) → every terminals test ≡ true → (kind : Terminal) → test kind ≡ true
 all_kinds test h kind =
-    ap test (sym (stands_at kind)) ∙ every_at terminals test (terminal_number kind) Abort h (ltb-true (terminal_number kind) (length terminals) (is_below kind))
+    ap test (sym (occurs_at kind)) ∙ every_at terminals test (terminal_number kind) Abort h (ltb-true (terminal_number kind) (length terminals) (is_below kind))
 
 same_kind : (kind other : Terminal) → is kind other ≡ true → kind ≡ other
-same_kind kind other h = sym (stands_at kind) ∙ ap (λ n. get_or terminals n Abort) (eqb-true _ _ h) ∙ stands_at other
+same_kind kind other h = sym (occurs_at kind) ∙ ap (λ n. get_or terminals n Abort) (eqb-true _ _ h) ∙ occurs_at other
 
 -- what holds of each kind of a list holds of those that are among them
 covers_among : (kinds : List Terminal) → Covers (is_terminal_among kinds) kinds

@@ -6,8 +6,8 @@ use Rattle.gms_grammar.specs.declared.terminal.Terminal.TheVariants.{End}
 use Rattle.gms_grammar.specs.Grammar.{the, Derives}
 use Rattle.gms_grammar.specs.GamsGrammar.{Nonterminal, productions}
 use Rattle.gms_grammar.specs.Rules.{Rule, kind_ahead, kind_of, left_by, AreFaultless, IsStuck, IsWrong, IsFirstFaulty, IsUnexpectedByRule, IsRefusedByRule, FaultsOnce}
-use Rattle.gms_grammar.proofs.Basics.{behind_same}
-use Rattle.gms_grammar.proofs.Stopping.{stops_once, front_begins}
+use Rattle.gms_grammar.proofs.Basics.{after_same}
+use Rattle.gms_grammar.proofs.Stopping.{stops_once, prefix_begins}
 use Rattle.gms_grammar.proofs.Language.{gams_stuck_stops, gams_stuck_none, gams_takes, gams_stops}
 use Rattle.gms_grammar.proofs.Orders.{Order, at_once, earlier, later, order}
 use Rattle.gms_grammar.proofs.Rules.{ahead_append}
@@ -57,7 +57,7 @@ module _ {K D W E R : Type 0} (rules : K → Rule D W E R) (key : K) where
     pub one_refused : {Wants : List (Terminal × D) → List (Terminal × D) → Type 0} (n : Nonterminal) (w : W) (tokens : List (Terminal × D)) (one other : E) → IsRefusedByRule rules key Wants n w tokens one → IsRefusedByRule rules key Wants n w tokens other → one ≡ other
     one_refused {Wants} n w tokens one other f g =
         let prefix = stops_once productions (the n) tokens f.prefix f.rest g.prefix g.rest f.stops g.stops in
-        let rest = behind_same f.prefix f.rest g.rest (sym f.stops.parts ∙ g.stops.parts ∙ ap (λ (us : List (Terminal × D)). us ++ g.rest) (sym prefix)) in
+        let rest = after_same f.prefix f.rest g.rest (sym f.stops.parts ∙ g.stops.parts ∙ ap (λ (us : List (Terminal × D)). us ++ g.rest) (sym prefix)) in
         one_cause w f.prefix f.rest one other f.cause
         (subst (λ (us : List (Terminal × D)). IsFirstFaulty rules key w us (kind_of f.rest) other ⊎ IsUnexpectedByRule rules key (Wants g.prefix g.rest) w us f.rest other) (sym prefix)
         (subst (λ (us : List (Terminal × D)). IsFirstFaulty rules key w g.prefix (kind_of us) other ⊎ IsUnexpectedByRule rules key (Wants g.prefix g.rest) w g.prefix us other) (sym rest) g.cause))
@@ -76,8 +76,8 @@ module _ {K D W E R : Type 0} {rules : K → Rule D W E R} {key : K} {n : Nonter
   wrong_refused s =
       let over = gams_takes known n ts (s.before ++ s.token ∷ []) s.following s.takes in
       let stop = gams_stops known n ts in
-      let more = front_begins productions (the n) ts stop.0 stop.1.0 (s.before ++ s.token ∷ []) s.following stop.1.1 over.0 over.1 in
-      let following : s.following ≡ more.0 ++ stop.1.0 = behind_same (s.before ++ s.token ∷ []) s.following (more.0 ++ stop.1.0) (sym over.0 ∙ stop.1.1.parts ∙ ap (λ (us : List (Terminal × D)). us ++ stop.1.0) more.1 ∙ append_assoc (s.before ++ s.token ∷ []) more.0 stop.1.0) in
+      let more = prefix_begins productions (the n) ts stop.0 stop.1.0 (s.before ++ s.token ∷ []) s.following stop.1.1 over.0 over.1 in
+      let following : s.following ≡ more.0 ++ stop.1.0 = after_same (s.before ++ s.token ∷ []) s.following (more.0 ++ stop.1.0) (sym over.0 ∙ stop.1.1.parts ∙ ap (λ (us : List (Terminal × D)). us ++ stop.1.0) more.1 ∙ append_assoc (s.before ++ s.token ∷ []) more.0 stop.1.0) in
       record {
         prefix = stop.0;
         rest = stop.1.0;

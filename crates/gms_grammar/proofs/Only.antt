@@ -4,8 +4,8 @@ use Rattle.std.proofs.Common.{◌≡◌, Bool, true, false, ◌||◌, List, [], 
 use Rattle.gms_grammar.specs.Grammar.{Part, one, the, ◌·◌, ◌∣◌, opt, many, DerivationTree, leaf, pair, left, right, none, some, more, node, yield, IsTree}
 use Rattle.gms_grammar.specs.LookAhead.{LookAhead, may_be_empty, may_begin, may_come_next, Apart, IsDecided, DecidesEach}
 use Rattle.gms_grammar.specs.Reading.{Found, read, stuck, leads, Reads, taken, refused, entered, entered_stuck, both, first_stuck, second_stuck, in_left, in_left_stuck, in_right, in_right_stuck, in_neither, left_out, there, there_stuck, no_more, again, again_stuck, later_stuck}
-use Rattle.gms_grammar.proofs.Basics.{behind_same}
-use Rattle.gms_grammar.proofs.Starts.{Follows, Goes, goes_behind, starts, follows_part, follows_more, begun, clash, unled, unfollowed}
+use Rattle.gms_grammar.proofs.Basics.{after_same}
+use Rattle.gms_grammar.proofs.Starts.{Follows, Goes, goes_after, starts, follows_part, follows_more, begun, clash, unled, unfollowed}
 use Rattle.gms_grammar.proofs.Sound.{sound, took}
 
 module _ {C N D : Type 0} (production : N → Part C N) (ahead : LookAhead C N) (ok : DecidesEach ahead production) where
@@ -25,7 +25,7 @@ module _ {C N D : Type 0} (production : N → Part C N) (ahead : LookAhead C N) 
   -- the tokens agree in two parts, where the first trees are the same
   pub rest_agrees : (a b : DerivationTree (C × D)) (u v following further : List (C × D)) → b ≡ a → (yield b ++ u) ++ following ≡ (yield a ++ v) ++ further → u ++ following ≡ v ++ further
   rest_agrees a b u v following further same e =
-      behind_same (yield a) _ _
+      after_same (yield a) _ _
       (sym (append_assoc (yield a) u following) ∙ ap (λ t. (yield t ++ u) ++ following) (sym same) ∙ e ∙ append_assoc (yield a) v further)
 
   only_one : (test : C → Bool) (token : C × D) (other : DerivationTree (C × D)) (following further : List (C × D)) → IsTree production (one test) other → yield other ++ following ≡ (token ∷ []) ++ further → other ≡ leaf token
@@ -51,7 +51,7 @@ module _ {C N D : Type 0} (production : N → Part C N) (ahead : LookAhead C N) 
       record {
         is_tree = is_b;
         follows = follows;
-        goes = subst (λ w. Goes w (v ++ further)) (sym e) (goes_behind v rest further goes);
+        goes = subst (λ w. Goes w (v ++ further)) (sym e) (goes_after v rest further goes);
         agrees = sym (append_assoc (yield b) (yield c) following) ∙ agrees ∙ append_assoc (yield a) v further;
       }
 

@@ -32,9 +32,9 @@ module _ {D : Type 0} where
   Plain tokens = Gams (the Index) tokens × Gams plain_index tokens
 
   -- one more index at the start
-  front_of : {u v w : List (Terminal × D)} → Plain u → Gams (token Comma) v → Gams either w → Gams either (u ++ (v ++ w))
-  front_of index comma (first others) = first (one_more index.0 comma others)
-  front_of index comma (second others) = second (one_more index.1 comma others)
+  prefix_of : {u v w : List (Terminal × D)} → Plain u → Gams (token Comma) v → Gams either w → Gams either (u ++ (v ++ w))
+  prefix_of index comma (first others) = first (one_more index.0 comma others)
+  prefix_of index comma (second others) = second (one_more index.1 comma others)
 
   plain_name : {tokens : List (Terminal × D)} → Gams name tokens → Plain tokens
   plain_name word = (same productions (whole (second (both word absent))) (simp end_nil), second word)
@@ -47,7 +47,7 @@ module _ {D : Type 0} where
     heads (whole (second (both word (whole (second following))))) = after_index (plain_name word) following
 
     after_index : {u v : List (Terminal × D)} → Plain u → Gams (the AfterHeadIndex) v → Gams either (u ++ v)
-    after_index index (whole (first (both comma others))) = front_of index comma (heads others)
+    after_index index (whole (first (both comma others))) = prefix_of index comma (heads others)
     after_index index (whole (second (both closing (whole (both condition (first rest)))))) = first (both index.0 (both over (both closing (whole (both condition rest)))))
     after_index index (whole (second (both closing (whole (both condition (second rest)))))) = second (both index.1 (both over (both closing (both condition rest))))
 
@@ -76,19 +76,19 @@ module _ {D : Type 0} where
   assigned (whole (second (both word (present lag)))) others closing rest following =
       same productions (whole (second (both word (whole (first (both lag (whole (both others (both closing rest))))))))) (simp append_assoc)
 
-  assigned_behind : {v w x : List (Terminal × D)} → Gams (many (token Comma · the Index)) v → Gams (token RightParen) w → Gams (the AfterTarget) x → Gams (the AfterHeadIndex) (v ++ (w ++ x))
-  assigned_behind over closing (whole (both condition rest)) = whole (second (both closing (whole (both condition (first rest)))))
-  assigned_behind (again (both comma a) others) closing rest =
-      followed _ _ _ comma (assigned a others closing rest (assigned_behind others closing rest))
+  assigned_after : {v w x : List (Terminal × D)} → Gams (many (token Comma · the Index)) v → Gams (token RightParen) w → Gams (the AfterTarget) x → Gams (the AfterHeadIndex) (v ++ (w ++ x))
+  assigned_after over closing (whole (both condition rest)) = whole (second (both closing (whole (both condition (first rest)))))
+  assigned_after (again (both comma a) others) closing rest =
+      followed _ _ _ comma (assigned a others closing rest (assigned_after others closing rest))
 
   -- an index of a defined equation before others
   defined : {u v : List (Terminal × D)} → Gams plain_index u → Gams (the AfterHeadIndex) v → Gams (the HeadIndices) (u ++ v)
   defined (first text) following = whole (first (both text following))
   defined (second word) following = whole (second (both word (whole (second following))))
 
-  defined_behind : {v w x : List (Terminal × D)} → Gams (many (token Comma · plain_index)) v → Gams (token RightParen) w → Gams plain_rest x → Gams (the AfterHeadIndex) (v ++ (w ++ x))
-  defined_behind over closing (both condition rest) = whole (second (both closing (whole (both condition (second rest)))))
-  defined_behind (again (both comma a) others) closing rest = followed _ _ _ comma (defined a (defined_behind others closing rest))
+  defined_after : {v w x : List (Terminal × D)} → Gams (many (token Comma · plain_index)) v → Gams (token RightParen) w → Gams plain_rest x → Gams (the AfterHeadIndex) (v ++ (w ++ x))
+  defined_after over closing (both condition rest) = whole (second (both closing (whole (both condition (second rest)))))
+  defined_after (again (both comma a) others) closing rest = followed _ _ _ comma (defined a (defined_after others closing rest))
 
   -- a name with indices before what follows them
   with_heads : {u v w : List (Terminal × D)} → Gams name u → Gams (token LeftParen) v → Gams (the HeadIndices) w → Gams (the NamedStatement) (u ++ (v ++ w))
@@ -100,10 +100,10 @@ module _ {D : Type 0} where
   named_table (first (whole (both (whole (both word (both absent absent))) (whole (both condition rest))))) =
       same productions (whole (both word (whole (second (second (whole (both condition (first rest)))))))) (simp end_nil)
   named_table (first (whole (both (whole (both word (both absent (present (both opening (both (whole (both a others)) closing)))))) rest))) =
-      same productions (with_heads word opening (assigned a others closing rest (assigned_behind others closing rest))) (simp append_assoc)
+      same productions (with_heads word opening (assigned a others closing rest (assigned_after others closing rest))) (simp append_assoc)
   named_table (second (both word (both absent (both condition rest)))) = whole (both word (whole (second (second (whole (both condition (second rest)))))))
   named_table (second (both word (both (present (both opening (both (both a others) closing))) rest))) =
-      same productions (with_heads word opening (defined a (defined_behind others closing rest))) (simp append_assoc)
+      same productions (with_heads word opening (defined a (defined_after others closing rest))) (simp append_assoc)
 
   pub named_derives : (tokens : List (Terminal × D)) → Derives productions (the NamedStatement) tokens ↔ Derives productions plain_named tokens
   named_derives = derive_alike productions (the NamedStatement) plain_named (λ tokens h. named_plain h) (λ tokens h. named_table h)

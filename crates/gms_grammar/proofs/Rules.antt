@@ -19,10 +19,10 @@ ahead_append (t ∷ u) v ahead = refl
 pub ahead_is : {D : Type 0} (u us : List (Terminal × D)) {rest : List (Terminal × D)} → rest ≡ u ++ us → kind_of rest ≡ kind_ahead u (kind_of us)
 ahead_is u us e = ap kind_of e ∙ ahead_append u us End
 
-pub walk_append : {D W : Type 0} (after : W → Terminal × D → Terminal → W) (w : W) (u v : List (Terminal × D)) (ahead : Terminal) → left_by after w (u ++ v) ahead ≡ left_by after (left_by after w u (kind_ahead v ahead)) v ahead
-walk_append after w [] v ahead = refl
-walk_append after w (t ∷ u) v ahead =
-    ap (λ (k : Terminal). left_by after (after w t k) (u ++ v) ahead) (ahead_append u v ahead) ∙ walk_append after (after w t (kind_ahead u (kind_ahead v ahead))) u v ahead
+pub read_state_append : {D W : Type 0} (after : W → Terminal × D → Terminal → W) (w : W) (u v : List (Terminal × D)) (ahead : Terminal) → left_by after w (u ++ v) ahead ≡ left_by after (left_by after w u (kind_ahead v ahead)) v ahead
+read_state_append after w [] v ahead = refl
+read_state_append after w (t ∷ u) v ahead =
+    ap (λ (k : Terminal). left_by after (after w t k) (u ++ v) ahead) (ahead_append u v ahead) ∙ read_state_append after (after w t (kind_ahead u (kind_ahead v ahead))) u v ahead
 
 -- what each token keeps, tokens keep
 pub all_keep : {D W : Type 0} (after : W → Terminal × D → Terminal → W) (Keeps : W → Type 0) → ((w : W) (t : Terminal × D) (k : Terminal) → Keeps w → Keeps (after w t k)) → (w : W) (u : List (Terminal × D)) (ahead : Terminal) → Keeps w → Keeps (left_by after w u ahead)
@@ -62,9 +62,9 @@ module _ {K D W E R : Type 0} {rules : K → Rule D W E R} {key : K} where
       sound_append (rules key) w (yield a) u (kind_of us) (subst (λ (k : Terminal). AreFaultless (rules key) w (yield a) k) (ahead_is u us e) g.are_sound)
       (subst (λ (x : W). AreFaultless (rules key) x u (kind_of us)) (g.leaves ∙ ap (left_by (rules key).after w (yield a)) (ahead_is u us e)) h)
 
-  pub walk_on : {p : Part Terminal Nonterminal} {w v : W} {ts rest : List (Terminal × D)} {a : DerivationTree (Terminal × D)} → IsPartRead rules key p w ts a v rest → (u us : List (Terminal × D)) → rest ≡ u ++ us → left_by (rules key).after v u (kind_of us) ≡ left_by (rules key).after w (yield a ++ u) (kind_of us)
-  walk_on {w = w} {a = a} g u us e =
-      ap (λ (x : W). left_by (rules key).after x u (kind_of us)) (g.leaves ∙ ap (left_by (rules key).after w (yield a)) (ahead_is u us e)) ∙ sym (walk_append (rules key).after w (yield a) u (kind_of us))
+  pub read_state_on : {p : Part Terminal Nonterminal} {w v : W} {ts rest : List (Terminal × D)} {a : DerivationTree (Terminal × D)} → IsPartRead rules key p w ts a v rest → (u us : List (Terminal × D)) → rest ≡ u ++ us → left_by (rules key).after v u (kind_of us) ≡ left_by (rules key).after w (yield a ++ u) (kind_of us)
+  read_state_on {w = w} {a = a} g u us e =
+      ap (λ (x : W). left_by (rules key).after x u (kind_of us)) (g.leaves ∙ ap (left_by (rules key).after w (yield a)) (ahead_is u us e)) ∙ sym (read_state_append (rules key).after w (yield a) u (kind_of us))
 
   -- parts that were read
   pub gives_both : {p q : Part Terminal Nonterminal} {w v x : W} {ts between rest : List (Terminal × D)} {a b : DerivationTree (Terminal × D)} →
@@ -72,7 +72,7 @@ module _ {K D W E R : Type 0} {rules : K → Rule D W E R} {key : K} where
   gives_both {rest = rest} {b = b} g h = record {
     reads = both g.reads h.reads;
     are_sound = onward g (yield b) rest (given_parts h) h.are_sound;
-    leaves = h.leaves ∙ walk_on g (yield b) rest (given_parts h);
+    leaves = h.leaves ∙ read_state_on g (yield b) rest (given_parts h);
   }
 
   pub gives_the : (n : Nonterminal) {w v : W} {ts rest : List (Terminal × D)} {a : DerivationTree (Terminal × D)} → IsPartRead rules key (productions n) w ts a v rest → IsPartRead rules key (the n) w ts (node a) v rest
@@ -98,7 +98,7 @@ module _ {K D W E R : Type 0} {rules : K → Rule D W E R} {key : K} where
   gives_again {rest = rest} {b = b} l g h = record {
     reads = again l g.reads h.reads;
     are_sound = onward g (yield b) rest (given_parts h) h.are_sound;
-    leaves = h.leaves ∙ walk_on g (yield b) rest (given_parts h);
+    leaves = h.leaves ∙ read_state_on g (yield b) rest (given_parts h);
   }
 
   -- the same tokens were read of another part
@@ -134,26 +134,26 @@ module _ {K D W E R : Type 0} {rules : K → Rule D W E R} {key : K} where
   wrong_parts s = takes_parts s.takes ∙ append_assoc s.before (s.token ∷ []) s.following
 
   -- a fault after a part is a fault of the larger part
-  pub wrong_behind : {p q r : Part Terminal Nonterminal} {w v : W} {ts between : List (Terminal × D)} {a : DerivationTree (Terminal × D)} {fault : E} → IsPartRead rules key p w ts a v between → (s : IsWrong rules key q v between fault) →
+  pub wrong_after : {p q r : Part Terminal Nonterminal} {w v : W} {ts between : List (Terminal × D)} {a : DerivationTree (Terminal × D)} {fault : E} → IsPartRead rules key p w ts a v between → (s : IsWrong rules key q v between fault) →
       Takes productions look_ahead r ts (yield a ++ (s.before ++ s.token ∷ [])) s.following → IsWrong rules key r w ts fault
-  wrong_behind {r = r} {ts = ts} {a = a} {fault = fault} g s t = record {
+  wrong_after {r = r} {ts = ts} {a = a} {fault = fault} g s t = record {
     before = yield a ++ s.before;
     token = s.token;
     following = s.following;
     takes = subst (λ x. Takes productions look_ahead r ts x s.following) (sym (append_assoc (yield a) s.before (s.token ∷ []))) t;
     are_sound = onward g s.before (s.token ∷ s.following) (wrong_parts s) s.are_sound;
-    is_faulty = subst (λ (x : W). (rules key).Faulty x s.token (kind_of s.following) fault) (walk_on g s.before (s.token ∷ s.following) (wrong_parts s)) s.is_faulty;
+    is_faulty = subst (λ (x : W). (rules key).Faulty x s.token (kind_of s.following) fault) (read_state_on g s.before (s.token ∷ s.following) (wrong_parts s)) s.is_faulty;
   }
 
-  pub stuck_behind : {p q r : Part Terminal Nonterminal} {w v : W} {ts between : List (Terminal × D)} {a : DerivationTree (Terminal × D)} {fault : E} → IsPartRead rules key p w ts a v between → (s : IsStuck rules key q v between fault) →
+  pub stuck_after : {p q r : Part Terminal Nonterminal} {w v : W} {ts between : List (Terminal × D)} {a : DerivationTree (Terminal × D)} {fault : E} → IsPartRead rules key p w ts a v between → (s : IsStuck rules key q v between fault) →
       Reads productions look_ahead r ts (stuck (yield a ++ s.prefix) s.rest) → IsStuck rules key r w ts fault
-  stuck_behind {a = a} g s r = record { prefix = yield a ++ s.prefix; rest = s.rest; reads = r; are_sound = onward g s.prefix s.rest (sound productions look_ahead s.reads) s.are_sound; is = s.is }
+  stuck_after {a = a} g s r = record { prefix = yield a ++ s.prefix; rest = s.rest; reads = r; are_sound = onward g s.prefix s.rest (sound productions look_ahead s.reads) s.are_sound; is = s.is }
 
   pub refuses_first : {p q : Part Terminal Nonterminal} {w : W} {ts : List (Terminal × D)} {e : R} → Refuses rules key p w ts e → Refuses rules key (p · q) w ts e
   refuses_first r = by_cause r (λ fault s. stuck_as s (first_stuck s.reads)) (λ fault s. wrong_as s (takes_first s.takes))
 
   pub refuses_second : {p q : Part Terminal Nonterminal} {w v : W} {ts between : List (Terminal × D)} {a : DerivationTree (Terminal × D)} {e : R} → IsPartRead rules key p w ts a v between → Refuses rules key q v between e → Refuses rules key (p · q) w ts e
-  refuses_second g r = by_cause r (λ fault s. stuck_behind g s (second_stuck g.reads s.reads)) (λ fault s. wrong_behind g s (takes_second g.reads s.takes))
+  refuses_second g r = by_cause r (λ fault s. stuck_after g s (second_stuck g.reads s.reads)) (λ fault s. wrong_after g s (takes_second g.reads s.takes))
 
   pub refuses_the : (n : Nonterminal) {w : W} {ts : List (Terminal × D)} {e : R} → Refuses rules key (productions n) w ts e → Refuses rules key (the n) w ts e
   refuses_the n r = by_cause r (λ fault s. stuck_as s (entered_stuck s.reads)) (λ fault s. wrong_as s (takes_the s.takes))
@@ -171,7 +171,7 @@ module _ {K D W E R : Type 0} {rules : K → Rule D W E R} {key : K} where
   refuses_again h r = by_cause r (λ fault s. stuck_as s (again_stuck h s.reads)) (λ fault s. wrong_as s (takes_many s.takes))
 
   pub refuses_later : {p : Part Terminal Nonterminal} {w v : W} {ts between : List (Terminal × D)} {a : DerivationTree (Terminal × D)} {e : R} → leads productions look_ahead p ts ≡ true → IsPartRead rules key p w ts a v between → Refuses rules key (many p) v between e → Refuses rules key (many p) w ts e
-  refuses_later l g r = by_cause r (λ fault s. stuck_behind g s (later_stuck l g.reads s.reads)) (λ fault s. wrong_behind g s (takes_later g.reads s.takes))
+  refuses_later l g r = by_cause r (λ fault s. stuck_after g s (later_stuck l g.reads s.reads)) (λ fault s. wrong_after g s (takes_later g.reads s.takes))
 
   -- nothing of a part was read, since the next token is unexpected, and this is what is told
   pub refuses_at : {p : Part Terminal Nonterminal} {w : W} {ts : List (Terminal × D)} {e : R} → Reads productions look_ahead p ts (stuck [] ts) → ((fault : E) → e ≡ (rules key).told fault → (rules key).unexpected ts ≡ fault) → Refuses rules key p w ts e

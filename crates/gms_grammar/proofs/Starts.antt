@@ -17,9 +17,9 @@ Goes rest [] = ⊤
 Goes [] (x ∷ xs) = ⊥
 Goes (y ∷ ys) (x ∷ xs) = x ≡ y
 
-pub goes_behind : {T : Type 0} (u rest further : List T) → Goes rest further → Goes (u ++ rest) (u ++ further)
-goes_behind [] rest further h = h
-goes_behind (x ∷ u) rest further h = refl
+pub goes_after : {T : Type 0} (u rest further : List T) → Goes rest further → Goes (u ++ rest) (u ++ further)
+goes_after [] rest further h = h
+goes_after (x ∷ u) rest further h = refl
 
 module _ {C N D : Type 0} (production : N → Part C N) (ahead : LookAhead C N) (ok : DecidesEach ahead production) where
   -- the tokens are none, and the part may be empty, or their first may begin it
@@ -75,9 +75,9 @@ module _ {C N D : Type 0} (production : N → Part C N) (ahead : LookAhead C N) 
   not_led p q (x ∷ u) following h k apart = not_true _ (λ w. apart x.0 w h)
 
   -- what follows does not lead into a part that starts otherwise
-  pub not_led_behind : (p : Part C N) (after : C → Bool) (following : List (C × D)) → Follows after following → Apart ahead (may_begin ahead p) after → leads {D = D} production ahead p following ≡ false
-  not_led_behind p after [] h apart = refl
-  not_led_behind p after (x ∷ following) h apart = not_true _ (λ w. apart x.0 w h)
+  pub not_led_after : (p : Part C N) (after : C → Bool) (following : List (C × D)) → Follows after following → Apart ahead (may_begin ahead p) after → leads {D = D} production ahead p following ≡ false
+  not_led_after p after [] h apart = refl
+  not_led_after p after (x ∷ following) h apart = not_true _ (λ w. apart x.0 w h)
 
   -- a list begins with a token that may begin a part
   pub record Begun (p : Part C N) (prefix : List (C × D)) : Type 0 where

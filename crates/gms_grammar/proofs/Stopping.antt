@@ -1,7 +1,7 @@
 -- Tokens cease to begin anything at one place.
 use Rattle.std.proofs.Common.{◌≡◌, List, [], ◌∷◌, ◌++◌, refl, sym, ap, subst, ◌∙◌, append_assoc}
 use Rattle.gms_grammar.specs.Grammar.{Part, IsUnexpected, Begins, Stops}
-use Rattle.gms_grammar.proofs.Basics.{behind_same, end_nil}
+use Rattle.gms_grammar.proofs.Basics.{after_same, end_nil}
 
 -- How two prefixes of the same list compare: they are equal, or one is longer.
 data Compared {T : Type 0} (prefix other : List T) : Type 0 where
@@ -39,7 +39,7 @@ module _ {C N D : Type 0} (production : N → Part C N) where
   -- a prefix does not stop if a longer one begins something
   not_shorter : (part : Part C N) (tokens prefix rest other following : List (C × D)) (x : C × D) (w : List (C × D)) → Stops production part tokens prefix rest → tokens ≡ other ++ following → Begins production part other → other ≡ prefix ++ (x ∷ w) → ⊥
   not_shorter part tokens prefix rest other following x w s parts b e =
-      go rest s.ends (behind_same prefix rest ((x ∷ w) ++ following) (sym s.parts ∙ parts ∙ ap (λ u. u ++ following) e ∙ append_assoc prefix (x ∷ w) following))
+      go rest s.ends (after_same prefix rest ((x ∷ w) ++ following) (sym s.parts ∙ parts ∙ ap (λ u. u ++ following) e ∙ append_assoc prefix (x ∷ w) following))
     where
       begins : Begins production part (prefix ++ (x ∷ []))
       begins = begins_less part (prefix ++ (x ∷ [])) w (subst (λ u. Begins production part u) (e ∙ sym (append_assoc prefix (x ∷ []) w)) b)
@@ -51,8 +51,8 @@ module _ {C N D : Type 0} (production : N → Part C N) where
           u (subst (λ z. Begins production part (prefix ++ (z ∷ []))) equal begins)
 
   -- what begins a part is no longer than the prefix at which tokens cease to begin it
-  pub front_begins : (part : Part C N) (tokens prefix rest other following : List (C × D)) → Stops production part tokens prefix rest → tokens ≡ other ++ following → Begins production part other → (more : List (C × D)) × (prefix ≡ other ++ more)
-  front_begins part tokens prefix rest other following s e b = go (compare prefix rest other following (sym s.parts ∙ e))
+  pub prefix_begins : (part : Part C N) (tokens prefix rest other following : List (C × D)) → Stops production part tokens prefix rest → tokens ≡ other ++ following → Begins production part other → (more : List (C × D)) × (prefix ≡ other ++ more)
+  prefix_begins part tokens prefix rest other following s e b = go (compare prefix rest other following (sym s.parts ∙ e))
     where
       go : Compared prefix other → (more : List (C × D)) × (prefix ≡ other ++ more)
       go (same h) = ([], h ∙ sym (end_nil other))

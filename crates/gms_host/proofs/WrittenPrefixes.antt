@@ -53,8 +53,8 @@ passes_on old mid new expected pending left p q =
     record { bytes = p.bytes ++ q.bytes; written = output-both old mid new p.bytes q.bytes p.written q.written; split = p.split ∙ ap (λ (r : List ℕ). p.bytes ++ r) q.split ∙ sym (append_assoc p.bytes q.bytes left) }
 
 -- More may be appended to the expected text and to what is pending.
-pub passes_behind : {old new : Outside} {expected pending : List ℕ} (more : List ℕ) → Passes old new expected pending → Passes old new (expected ++ more) (pending ++ more)
-passes_behind {old} {new} {expected} {pending} more p = record { bytes = p.bytes; written = p.written; split = ap (λ (r : List ℕ). r ++ more) p.split ∙ append_assoc p.bytes pending more }
+pub passes_after : {old new : Outside} {expected pending : List ℕ} (more : List ℕ) → Passes old new expected pending → Passes old new (expected ++ more) (pending ++ more)
+passes_after {old} {new} {expected} {pending} more p = record { bytes = p.bytes; written = p.written; split = ap (λ (r : List ℕ). r ++ more) p.split ∙ append_assoc p.bytes pending more }
 
 -- The first `k` bytes of what is pending were written.
 pub passes_write : (old now next : Outside) (expected rest : List ℕ) (k : ℕ) → Passes old now expected rest → next ≡ with_output now (take k rest) → Passes old next expected (take (length rest - k) (drop k rest))
@@ -66,12 +66,12 @@ passes_whole old mid new expected pending p w = output-both old mid new p.bytes 
 
 -- A prefix of what was pending was written, and so a prefix of the expected text, no shorter than
 -- what was written before.
-pub front_on : (old mid new : Outside) (expected pending : List ℕ) → Passes old mid expected pending → WritesPrefix mid new pending → WritesPrefix old new expected
-front_on old mid new expected pending p f = (f.0, passes_on old mid new expected pending f.0 p f.1)
+pub prefix_on : (old mid new : Outside) (expected pending : List ℕ) → Passes old mid expected pending → WritesPrefix mid new pending → WritesPrefix old new expected
+prefix_on old mid new expected pending p f = (f.0, passes_on old mid new expected pending f.0 p f.1)
 
 -- A prefix of a text is one of a longer text.
-pub front_longer : {old new : Outside} {expected : List ℕ} (more : List ℕ) → WritesPrefix old new expected → WritesPrefix old new (expected ++ more)
-front_longer more f = (f.0 ++ more, passes_behind more f.1)
+pub prefix_longer : {old new : Outside} {expected : List ℕ} (more : List ℕ) → WritesPrefix old new expected → WritesPrefix old new (expected ++ more)
+prefix_longer more f = (f.0 ++ more, passes_after more f.1)
 
 -- ---- standard output
 

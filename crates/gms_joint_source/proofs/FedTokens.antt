@@ -200,11 +200,11 @@ remark_fed : (b : ℕ) (text rest : List ℕ) → remark (b ∷ fed text rest) �
 remark_fed b text rest =
     if_alike (is_quote b) _ _ _ _ (quoted_fed Remark b text rest) (λ _. ap remark_of (run_fed is_text_byte (b ∷ text) rest refl))
 
-behind_name_fed : (b : ℕ) (text rest : List ℕ) → piece_after_name (b ∷ fed text rest) ≡ piece_after_name (b ∷ text)
-behind_name_fed b text rest = if_alike (b == 40 || is_item_mark b) _ _ _ _ (λ _. symbol_fed (b ∷ text) rest) (λ _. remark_fed b text rest)
+after_name_fed : (b : ℕ) (text rest : List ℕ) → piece_after_name (b ∷ fed text rest) ≡ piece_after_name (b ∷ text)
+after_name_fed b text rest = if_alike (b == 40 || is_item_mark b) _ _ _ _ (λ _. symbol_fed (b ∷ text) rest) (λ _. remark_fed b text rest)
 
-behind_domain_fed : (b : ℕ) (text rest : List ℕ) → piece_after_domain (b ∷ fed text rest) ≡ piece_after_domain (b ∷ text)
-behind_domain_fed b text rest = if_alike (is_item_mark b) _ _ _ _ (λ _. symbol_fed (b ∷ text) rest) (λ _. remark_fed b text rest)
+after_domain_fed : (b : ℕ) (text rest : List ℕ) → piece_after_domain (b ∷ fed text rest) ≡ piece_after_domain (b ∷ text)
+after_domain_fed b text rest = if_alike (is_item_mark b) _ _ _ _ (λ _. symbol_fed (b ∷ text) rest) (λ _. remark_fed b text rest)
 
 value_dot_fed : (shape : Shape) (depth : ℕ) (stage : Stage) (b : ℕ) (text rest : List ℕ) → begins_value_dot shape depth stage (b ∷ fed text rest) ≡ begins_value_dot shape depth stage (b ∷ text)
 value_dot_fed Parameter depth Spaced b text rest = ap (λ v. depth == 0 && (b == 46 && v)) (begins_fed is_ascii_digit text rest refl)
@@ -216,22 +216,22 @@ element_tail_fed Set b text rest = remark_fed b text rest
 element_tail_fed Scalar b text rest = remark_fed b text rest
 element_tail_fed Model b text rest = remark_fed b text rest
 
-behind_label_fed : (shape : Shape) (depth : ℕ) (stage : Stage) (b : ℕ) (text rest : List ℕ) → piece_after_label shape depth stage (b ∷ fed text rest) ≡ piece_after_label shape depth stage (b ∷ text)
-behind_label_fed shape depth stage b text rest =
+after_label_fed : (shape : Shape) (depth : ℕ) (stage : Stage) (b : ℕ) (text rest : List ℕ) → piece_after_label shape depth stage (b ∷ fed text rest) ≡ piece_after_label shape depth stage (b ∷ text)
+after_label_fed shape depth stage b text rest =
     if_same _ _ _ _ _ _ (ap (λ v. is_element_mark b && not v) (value_dot_fed shape depth stage b text rest)) (λ _. symbol_fed (b ∷ text) rest)
     (λ _. if_alike (depth == 0) _ _ _ _ (λ _. element_tail_fed shape b text rest) (λ _. label_token_fed b text rest))
 
 in_list_fed : (shape : Shape) (depth : ℕ) (stage : Stage) (b : ℕ) (text rest : List ℕ) → in_list shape depth stage (b ∷ fed text rest) ≡ in_list shape depth stage (b ∷ text)
 in_list_fed shape depth Fresh b text rest = label_token_fed b text rest
 in_list_fed shape depth Expected b text rest = label_token_fed b text rest
-in_list_fed shape depth After b text rest = behind_label_fed shape depth After b text rest
-in_list_fed shape depth Spaced b text rest = behind_label_fed shape depth Spaced b text rest
+in_list_fed shape depth After b text rest = after_label_fed shape depth After b text rest
+in_list_fed shape depth Spaced b text rest = after_label_fed shape depth Spaced b text rest
 
 token_at_fed : (current : Mode) (b : ℕ) (text rest : List ℕ) → token_read current (b ∷ fed text rest) ≡ token_read current (b ∷ text)
-token_at_fed (Named shape) b text rest = behind_name_fed b text rest
-token_at_fed TableNamed b text rest = behind_name_fed b text rest
-token_at_fed (Bare shape) b text rest = behind_domain_fed b text rest
-token_at_fed TableBare b text rest = behind_domain_fed b text rest
+token_at_fed (Named shape) b text rest = after_name_fed b text rest
+token_at_fed TableNamed b text rest = after_name_fed b text rest
+token_at_fed (Bare shape) b text rest = after_domain_fed b text rest
+token_at_fed TableBare b text rest = after_domain_fed b text rest
 token_at_fed (Element shape depth stage) b text rest = in_list_fed shape depth stage b text rest
 token_at_fed (Value shape) b text rest = code_token_fed Label b text rest
 token_at_fed (Tail shape) b text rest = code_token_fed Label b text rest
@@ -244,8 +244,8 @@ ends_fed test [] rest some = absurd (omega arith)
 ends_fed test (b ∷ text) rest some = refl
 
 -- what follows the blanks and line ends of a text that has more
-behind_space_fed : (test : ℕ → Bool) (text rest : List ℕ) → ends_in_return text ≡ false → space_length text < length text → ends_or_begins test (drop (space_length (fed text rest)) (fed text rest)) ≡ ends_or_begins test (drop (space_length text) text)
-behind_space_fed test text rest h some =
+after_space_fed : (test : ℕ → Bool) (text rest : List ℕ) → ends_in_return text ≡ false → space_length text < length text → ends_or_begins test (drop (space_length (fed text rest)) (fed text rest)) ≡ ends_or_begins test (drop (space_length text) text)
+after_space_fed test text rest h some =
     let space : ℕ = space_length text in
     ap (λ n. ends_or_begins test (drop n (fed text rest))) (space_fed text rest h some)
     ∙ ap (ends_or_begins test) (drop-append-le space text (10 ∷ rest) (omega (arith, some)))
@@ -254,9 +254,9 @@ behind_space_fed test text rest h some =
 ended_fed : (ends : LineEnds) (b : ℕ) (text rest : List ℕ) → ends_in_return (b ∷ text) ≡ false → space_length (b ∷ text) < length (b ∷ text) → line_end ends (b ∷ fed text rest) ≡ line_end ends (b ∷ text)
 ended_fed Skipped b text rest h some = refl
 ended_fed EndItem b text rest h some =
-    if_same _ _ _ _ _ _ (behind_space_fed (passes EndItem) (b ∷ text) rest h some) (λ _. ap (lexeme LineEnd) (space_fed (b ∷ text) rest h some)) (λ _. refl)
+    if_same _ _ _ _ _ _ (after_space_fed (passes EndItem) (b ∷ text) rest h some) (λ _. ap (lexeme LineEnd) (space_fed (b ∷ text) rest h some)) (λ _. refl)
 ended_fed EndElement b text rest h some =
-    if_same _ _ _ _ _ _ (behind_space_fed (passes EndElement) (b ∷ text) rest h some) (λ _. ap (lexeme LineEnd) (space_fed (b ∷ text) rest h some)) (λ _. refl)
+    if_same _ _ _ _ _ _ (after_space_fed (passes EndElement) (b ∷ text) rest h some) (λ _. ap (lexeme LineEnd) (space_fed (b ∷ text) rest h some)) (λ _. refl)
 
 -- ---- lines of tables
 

@@ -16,14 +16,14 @@ ends_in_return [] = false
 ends_in_return (b ∷ []) = b == 13
 ends_in_return (b ∷ c ∷ text) = ends_in_return (c ∷ text)
 
-pub no_return_behind : (b : ℕ) (text : List ℕ) → ends_in_return (b ∷ text) ≡ false → ends_in_return text ≡ false
-no_return_behind b [] h = refl
-no_return_behind b (c ∷ text) h = h
+pub no_return_after : (b : ℕ) (text : List ℕ) → ends_in_return (b ∷ text) ≡ false → ends_in_return text ≡ false
+no_return_after b [] h = refl
+no_return_after b (c ∷ text) h = h
 
 pub no_return_drop : (n : ℕ) (text : List ℕ) → ends_in_return text ≡ false → ends_in_return (drop n text) ≡ false
 no_return_drop zero text h = h
 no_return_drop (suc n) [] h = refl
-no_return_drop (suc n) (b ∷ text) h = no_return_drop n text (no_return_behind b text h)
+no_return_drop (suc n) (b ∷ text) h = no_return_drop n text (no_return_after b text h)
 
 -- a run of bytes ends before a line feed
 pub run_fed : (test : ℕ → Bool) (text rest : List ℕ) → test 10 ≡ false → prefix_len test (fed text rest) ≡ prefix_len test text
@@ -44,7 +44,7 @@ other_fed b text rest h = ap (λ v. not (is_blank b || v)) (line_end_fed b text 
 pub to_line_end_fed : (text rest : List ℕ) → ends_in_return text ≡ false → before is_line_end (fed text rest) ≡ before is_line_end text
 to_line_end_fed [] rest h = refl
 to_line_end_fed (b ∷ text) rest h =
-    ap₂ (λ v n. if v then 0 else 1 + n) (line_end_fed b text rest h) (to_line_end_fed text rest (no_return_behind b text h))
+    ap₂ (λ v n. if v then 0 else 1 + n) (line_end_fed b text rest h) (to_line_end_fed text rest (no_return_after b text h))
 
 pub content_fed : (text rest : List ℕ) → ends_in_return text ≡ false → content (fed text rest) ≡ content text
 content_fed text rest h =
@@ -59,7 +59,7 @@ space_fed (b ∷ text) rest h some = elim (true_or_false (begins_other (b ∷ te
   | inr f ↦
       let here : space_length (b ∷ text) ≡ 1 + space_length text = ap (λ v. if v then 0 else 1 + space_length text) f in
       let more : space_length text < length text = omega (arith, here, some) in
-      ap (λ v. if v then 0 else 1 + space_length (fed text rest)) (other_fed b text rest h ∙ f) ∙ ap (λ n. 1 + n) (space_fed text rest (no_return_behind b text h) more) ∙ sym here
+      ap (λ v. if v then 0 else 1 + space_length (fed text rest)) (other_fed b text rest h ∙ f) ∙ ap (λ n. 1 + n) (space_fed text rest (no_return_after b text h) more) ∙ sym here
 ]
 
 -- blanks and line ends that nothing follows continue with the line feed
@@ -73,5 +73,5 @@ space_all_fed (b ∷ text) rest h all = elim (true_or_false (begins_other (b ∷
       let here : space_length (b ∷ text) ≡ 1 + space_length text = ap (λ v. if v then 0 else 1 + space_length text) f in
       let others : space_length text ≡ length text = omega (arith, here, all) in
       let there : space_length (b ∷ fed text rest) ≡ 1 + space_length (fed text rest) = ap (λ v. if v then 0 else 1 + space_length (fed text rest)) (other_fed b text rest h ∙ f) in
-      omega (arith, there, space_all_fed text rest (no_return_behind b text h) others)
+      omega (arith, there, space_all_fed text rest (no_return_after b text h) others)
 ]

@@ -24,10 +24,10 @@ use Rattle.gms_parse.specs.ReadStates.{KindedToken, ReaderState, is_index, new_l
 use Rattle.gms_parse.specs.InnerReadings.{Derivation, GamsPart}
 use Rattle.gms_parse.proofs.TokenKinds.{begins, same_kind}
 use Rattle.gms_parse.proofs.StateLemmas.{labels_kept}
-use Rattle.gms_parse.proofs.Alphabet.{AllPass, pass_front, pass_rest, only, all_pass}
-use Rattle.gms_parse.proofs.Depths.{TextsAbove, depth_after, depth_append, above_front, above_rest, is_deep, is_shallow, fits_the, fits_index, Closes, closes}
+use Rattle.gms_parse.proofs.Alphabet.{AllPass, pass_prefix, pass_rest, only, all_pass}
+use Rattle.gms_parse.proofs.Depths.{TextsAbove, depth_after, depth_append, above_prefix, above_rest, is_deep, is_shallow, fits_the, fits_index, Closes, closes}
 use Rattle.gms_joint_source.proofs.Tests.{IsTextTest, is_text_test}
-use Rattle.gms_joint_source.proofs.Throughouts.{Throughout, NoMore, Stands, stands_on, Passed, is_right, passed}
+use Rattle.gms_joint_source.proofs.Throughouts.{Throughout, NoMore, Occurs, occurs_on, Passed, is_right, passed}
 
 -- ---- depths
 
@@ -225,7 +225,7 @@ index_if false text others h = cc
 
 module _ (first second : List ℕ) (names labels larger : List (List ℕ)) (whole : List KindedToken) (keep : (text : List ℕ) (n : ℕ) → place_of labels text ≡ Some n → place_of larger text ≡ Some n) where
   abbrev Here : ReaderState → List KindedToken → Type 0
-  Here w tokens = Stands first second names labels whole w tokens
+  Here w tokens = Occurs first second names labels whole w tokens
 
   -- a label that was entered has the same number in both
   pub kept : (text other : List ℕ) → other ≡ text → (o : Option ℕ) → place_of labels text ≡ o → IsSome o → place_of labels text ≡ place_of larger other
@@ -249,50 +249,50 @@ module _ (first second : List ℕ) (names labels larger : List (List ℕ)) (whol
       let new : new_labels first w t (kind_of rest) ≡ text ∷ [] = index_if (is_index w t.0) text _ index in
       let here : IsSome (place_of (reader_after first w t (kind_of rest)).labels text) = subst (λ (ts : List (List ℕ)). IsSome (place_of (all_entered w.labels ts) text)) (sym new) (found_in w.labels text) in
       kept text (unquoted (token_text second t.1)) (ap unquoted e.alike.0) (place_of labels text) refl
-      (stays (reader_after first w t (kind_of rest)) rest text (place_of (reader_after first w t (kind_of rest)).labels text) (stands_on first second names labels whole w t rest e) refl here)
+      (stays (reader_after first w t (kind_of rest)) rest text (place_of (reader_after first w t (kind_of rest)).labels text) (occurs_on first second names labels whole w t rest e) refl here)
 
   -- ---- expressions
 
   -- a reader is after a part of an expression, and `n` parentheses are open
-  record Behind (least n : ℕ) (p : GamsPart) (tree : Derivation) (rest : List KindedToken) : Type 0 where
+  record After (least n : ℕ) (p : GamsPart) (tree : Derivation) (rest : List KindedToken) : Type 0 where
     read_state : ReaderState
     level : read_state.level ≡ least
     open_count : read_state.open_count ≡ n
-    stands : Here read_state rest
+    occurs : Here read_state rest
     all : Throughout SameText NoMore p tree
 
   -- parts of an expression in which each text is in parentheses
   within : {p : GamsPart} {tokens rest : List KindedToken} {tree : Derivation} → Reads productions look_ahead p tokens (read tree rest) → (least n : ℕ) (w : ReaderState) → w.level ≡ least → w.open_count ≡ n → AllPass is_inner (yield tree) → TextsAbove least n (yield tree) → Here w tokens →
-      Behind least (depth_after n (yield tree)) p tree rest
+      After least (depth_after n (yield tree)) p tree rest
   within (taken {test = test} {token = t} {rest = rest} h) least n w l o i d e = record {
     read_state = reader_after first w t (kind_of rest);
     level = ap (λ b. if b then w.open_count else w.level) (not-true (begins t.0) i.0) ∙ l;
     open_count = ap (λ m. open_after m t.0) o;
-    stands = stands_on first second names labels whole w t rest e;
+    occurs = occurs_on first second names labels whole w t rest e;
     all = of_deep test w t rest (λ k. let deep = d.0 k in omega (arith, deep, l, o)) h e;
   }
   within (entered_by r) least n w l o i d e =
       let one = within r least n w l o i d e in
-      record { read_state = one.read_state; level = one.level; open_count = one.open_count; stands = one.stands; all = (one.all, tt) }
+      record { read_state = one.read_state; level = one.level; open_count = one.open_count; occurs = one.occurs; all = (one.all, tt) }
   within (both {a = a} {b = b} r x) least n w l o i d e =
-      let one = within r least n w l o (pass_front is_inner (yield a) (yield b) i) (above_front least n (yield a) (yield b) d) e in
-      let other = within x least (depth_after n (yield a)) one.read_state one.level one.open_count (pass_rest is_inner (yield a) (yield b) i) (above_rest least n (yield a) (yield b) d) one.stands in
-      record { read_state = other.read_state; level = other.level; open_count = other.open_count ∙ sym (depth_append n (yield a) (yield b)); stands = other.stands; all = (one.all, other.all) }
+      let one = within r least n w l o (pass_prefix is_inner (yield a) (yield b) i) (above_prefix least n (yield a) (yield b) d) e in
+      let other = within x least (depth_after n (yield a)) one.read_state one.level one.open_count (pass_rest is_inner (yield a) (yield b) i) (above_rest least n (yield a) (yield b) d) one.occurs in
+      record { read_state = other.read_state; level = other.level; open_count = other.open_count ∙ sym (depth_append n (yield a) (yield b)); occurs = other.occurs; all = (one.all, other.all) }
   within (in_left k r) least n w l o i d e =
       let one = within r least n w l o i d e in
-      record { read_state = one.read_state; level = one.level; open_count = one.open_count; stands = one.stands; all = one.all }
+      record { read_state = one.read_state; level = one.level; open_count = one.open_count; occurs = one.occurs; all = one.all }
   within (in_right k m r) least n w l o i d e =
       let one = within r least n w l o i d e in
-      record { read_state = one.read_state; level = one.level; open_count = one.open_count; stands = one.stands; all = one.all }
-  within (left_out k) least n w l o i d e = record { read_state = w; level = l; open_count = o; stands = e; all = tt }
+      record { read_state = one.read_state; level = one.level; open_count = one.open_count; occurs = one.occurs; all = one.all }
+  within (left_out k) least n w l o i d e = record { read_state = w; level = l; open_count = o; occurs = e; all = tt }
   within (there k r) least n w l o i d e =
       let one = within r least n w l o i d e in
-      record { read_state = one.read_state; level = one.level; open_count = one.open_count; stands = one.stands; all = one.all }
-  within (no_more k) least n w l o i d e = record { read_state = w; level = l; open_count = o; stands = e; all = tt }
+      record { read_state = one.read_state; level = one.level; open_count = one.open_count; occurs = one.occurs; all = one.all }
+  within (no_more k) least n w l o i d e = record { read_state = w; level = l; open_count = o; occurs = e; all = tt }
   within (again {a = a} {b = b} k r x) least n w l o i d e =
-      let one = within r least n w l o (pass_front is_inner (yield a) (yield b) i) (above_front least n (yield a) (yield b) d) e in
-      let other = within x least (depth_after n (yield a)) one.read_state one.level one.open_count (pass_rest is_inner (yield a) (yield b) i) (above_rest least n (yield a) (yield b) d) one.stands in
-      record { read_state = other.read_state; level = other.level; open_count = other.open_count ∙ sym (depth_append n (yield a) (yield b)); stands = other.stands; all = (one.all, other.all) }
+      let one = within r least n w l o (pass_prefix is_inner (yield a) (yield b) i) (above_prefix least n (yield a) (yield b) d) e in
+      let other = within x least (depth_after n (yield a)) one.read_state one.level one.open_count (pass_rest is_inner (yield a) (yield b) i) (above_rest least n (yield a) (yield b) d) one.occurs in
+      record { read_state = other.read_state; level = other.level; open_count = other.open_count ∙ sym (depth_append n (yield a) (yield b)); occurs = other.occurs; all = (one.all, other.all) }
 
   -- what remains after a part of an expression
   of_formula : (n : Nonterminal) (tree : Derivation) (depth : Depth) (w : ReaderState) (tokens rest : List KindedToken) → is_formula n ≡ true → entry n depth ≡ true → Has depth w → Here w tokens → Reads productions look_ahead (productions n) tokens (read tree rest) →
@@ -306,7 +306,7 @@ module _ (first second : List ℕ) (names labels larger : List (List ℕ)) (whol
         read_state = one.read_state;
         is_ok = same_self (is_formula n) depth (left_in n depth depth) formula;
         at = counts_same depth w.level w.open_count one.read_state.level one.read_state.open_count one.level (one.open_count ∙ c.closed) h;
-        stands = one.stands;
+        occurs = one.occurs;
         all = one.all;
       }
 

@@ -19,7 +19,7 @@ use Rattle.gms_expressions.specs.Outcomes.{kinded_tokens}
 use Rattle.gms_expressions.specs.Words.{terminal_of}
 use Rattle.gms_joint_source.specs.JointSources.{joint_source, HaveJointPrefix, DerivesSource, BeginsWith}
 use Rattle.gms_joint_source.proofs.Spaces.{in_list_now, StartsFrom}
-use Rattle.gms_joint_source.proofs.JointTokens.{FrontTokens, front_tokens}
+use Rattle.gms_joint_source.proofs.JointTokens.{PrefixTokens, prefix_tokens}
 use Rattle.gms_joint_source.proofs.JointTrees.{divided}
 use Rattle.gms_joint_source.proofs.Listless.{no_list}
 
@@ -58,11 +58,11 @@ seen_own source tokens own tree are d =
 -- ---- the laws
 
 module _ (saved file : List ℕ) (tokens joint : List Token) (is : IsTokens saved tokens) (are : IsTokens (joint_source saved file) joint) where
-  prefix : FrontTokens (in_list_now is.has.last ≡ false) saved file tokens joint
-  prefix = front_tokens saved file tokens joint is are
+  prefix : PrefixTokens (in_list_now is.has.last ≡ false) saved file tokens joint
+  prefix = prefix_tokens saved file tokens joint is are
 
-  pub have_front : HaveJointPrefix saved tokens joint
-  have_front = record {
+  pub have_prefix : HaveJointPrefix saved tokens joint
+  have_prefix = record {
     own = prefix.own;
     tokens_are = prefix.tokens_are;
     ends = prefix.joining.ends;
@@ -99,9 +99,9 @@ module _ (saved file : List ℕ) (tokens joint : List Token) (is : IsTokens save
         let same : end ≡ prefix.joining.semicolon = cc in
         absurd (apart end prefix.joining.semicolon same (All-head (λ (token : Token). token.kind ≡ Break) end ends all) prefix.joining.is_semicolon)
 
-    behind_own : (u v w : List Token) → u ++ v ≡ u ++ w → v ≡ w
-    behind_own [] v w e = e
-    behind_own (x ∷ u) v w e = let h : u ++ v ≡ u ++ w = cc in behind_own u v w h
+    after_own : (u v w : List Token) → u ++ v ≡ u ++ w → v ≡ w
+    after_own [] v w e = e
+    after_own (x ∷ u) v w e = let h : u ++ v ≡ u ++ w = cc in after_own u v w h
 
     pub no_ends : (other : HaveJointPrefix saved tokens joint) → other.ends ≡ []
     no_ends other =
@@ -110,7 +110,7 @@ module _ (saved file : List ℕ) (tokens joint : List Token) (is : IsTokens save
         let here : prefix.own ++ (prefix.joining.semicolon ∷ prefix.joining.others ++ last) ≡ joint =
         sym (prefix.all_are ∙ ap (λ ts. prefix.own ++ ts ++ last) following ∙ append_assoc prefix.own (prefix.joining.semicolon ∷ prefix.joining.others) last) in
         no_more other.ends other.semicolon other.others (prefix.joining.others ++ last) other.are_ends
-        (behind_own prefix.own (prefix.joining.semicolon ∷ prefix.joining.others ++ last) (other.ends ++ other.semicolon ∷ other.others)
+        (after_own prefix.own (prefix.joining.semicolon ∷ prefix.joining.others ++ last) (other.ends ++ other.semicolon ∷ other.others)
         (here ∙ other.joint_are ∙ append_assoc other.own other.ends (other.semicolon ∷ other.others) ∙ ap (λ ts. ts ++ (other.ends ++ other.semicolon ∷ other.others)) (sym own)))
 
     pub begins_with : (whole : DerivationTree (Terminal × Token)) → DerivesSource (joint_source saved file) joint whole → BeginsWith whole tree

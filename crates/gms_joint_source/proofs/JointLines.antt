@@ -76,8 +76,8 @@ lines_fed (b ∷ text) rest = elim (true_or_false (b == 10)) [
 abbrev AreGood : ℕ → Bool → List (List ℕ) → Type 0
 AreGood start inside ls = (fault : ByteFault) → IsInLines start inside ls fault → ⊥
 
-good_behind : (start : ℕ) (inside : Bool) (line : List ℕ) (others : List (List ℕ)) → AreGood start inside (line ∷ others) → AreGood (start + length line) (inside_after inside line) others
-good_behind start inside line others good fault h = good fault (inr h)
+good_after : (start : ℕ) (inside : Bool) (line : List ℕ) (others : List (List ℕ)) → AreGood start inside (line ∷ others) → AreGood (start + length line) (inside_after inside line) others
+good_after start inside line others good fault h = good fault (inr h)
 
 no_end : (b : ℕ) (text : List ℕ) → no_ten (b ∷ text) ≡ true → is_line_end (b ∷ text) ≡ false
 no_end b [] h = no_end_by (b == 10) (b == 13) false true h (λ k. k)
@@ -157,17 +157,17 @@ ends_outside : (start : ℕ) (inside : Bool) (ls : List (List ℕ)) → AreGood 
 ends_outside start true [] good closing = let e : false ≡ true = closing refl in cc
 ends_outside start false [] good closing = refl
 ends_outside start inside (line ∷ others) good closing =
-    ends_outside (start + length line) (inside_after inside line) others (good_behind start inside line others good) (still_closed start inside line others good closing)
+    ends_outside (start + length line) (inside_after inside line) others (good_after start inside line others good) (still_closed start inside line others good closing)
 
 -- a text begins with these bytes, or not, whatever follows a line feed
-front_fed : (prefix text rest : List ℕ) → no_feed prefix ≡ true → str_eq_ignore_ascii_case (take (length prefix) (fed text rest)) prefix ≡ str_eq_ignore_ascii_case (take (length prefix) text) prefix
-front_fed [] text rest h = refl
-front_fed (c ∷ prefix) [] rest h = first_false (10 == to_ascii_lowercase c) (no_feed prefix) (str_eq_ignore_ascii_case (take (length prefix) rest) prefix) h
-front_fed (c ∷ prefix) (b ∷ text) rest h =
-    ap (λ v. (to_ascii_lowercase b == to_ascii_lowercase c) && v) (front_fed prefix text rest ((and_parts (not (10 == to_ascii_lowercase c)) (no_feed prefix) h).1))
+prefix_fed : (prefix text rest : List ℕ) → no_feed prefix ≡ true → str_eq_ignore_ascii_case (take (length prefix) (fed text rest)) prefix ≡ str_eq_ignore_ascii_case (take (length prefix) text) prefix
+prefix_fed [] text rest h = refl
+prefix_fed (c ∷ prefix) [] rest h = first_false (10 == to_ascii_lowercase c) (no_feed prefix) (str_eq_ignore_ascii_case (take (length prefix) rest) prefix) h
+prefix_fed (c ∷ prefix) (b ∷ text) rest h =
+    ap (λ v. (to_ascii_lowercase b == to_ascii_lowercase c) && v) (prefix_fed prefix text rest ((and_parts (not (10 == to_ascii_lowercase c)) (no_feed prefix) h).1))
 
 closes_fed : (text : List ℕ) → closes (fed text []) ≡ closes text
-closes_fed text = front_fed block_end text [] refl
+closes_fed text = prefix_fed block_end text [] refl
 
 opens_fed : (text : List ℕ) → ends_in_return text ≡ false → opens false (fed text []) ≡ opens false text
 opens_fed text h = ap (λ t. str_eq_ignore_ascii_case (take_while (λ b. not (is_blank b)) t) block_word) (content_fed text [] h)
@@ -184,7 +184,7 @@ inside_closed : (start : ℕ) (inside : Bool) {one other : List (List ℕ)} → 
 inside_closed start inside good empty = after_feed inside
 inside_closed start inside good (last b line h) = after_fed inside (b ∷ line) (last_good start inside b line [] h good)
 inside_closed start inside good (ended b line {one = one} h k) =
-    inside_closed (start + length (b ∷ line)) (inside_after inside (b ∷ line)) (good_behind start inside (b ∷ line) one good) k
+    inside_closed (start + length (b ∷ line)) (inside_after inside (b ∷ line)) (good_after start inside (b ∷ line) one good) k
 
 -- ---- what remains for tokens
 
@@ -240,7 +240,7 @@ code_return start inside good (last b line h) =
     return_append (read_as (class_of inside (b ∷ line)) (b ∷ line)) [] (read_return (class_of inside (b ∷ line)) (b ∷ line) (last_good start inside b line [] h good)) refl
 code_return start inside good (ended b line {one = one} h k) =
     return_append (read_as (class_of inside (b ∷ line)) (b ∷ line)) (code_of (inside_after inside (b ∷ line)) one) (read_return (class_of inside (b ∷ line)) (b ∷ line) h)
-    (code_return (start + length (b ∷ line)) (inside_after inside (b ∷ line)) (good_behind start inside (b ∷ line) one good) k)
+    (code_return (start + length (b ∷ line)) (inside_after inside (b ∷ line)) (good_after start inside (b ∷ line) one good) k)
 
 -- ---- sources
 
@@ -259,5 +259,5 @@ module _ (source : List ℕ) (good : AreGood 0 false (lines source)) where
       ∙ append_assoc (code_text source) (10 ∷ []) (code_text rest)
 
   -- and where that begins with `;` and another line feed
-  pub code_text_seam : (file : List ℕ) → code_text (fed source (59 ∷ 10 ∷ file)) ≡ fed (code_text source) (59 ∷ 10 ∷ code_text file)
-  code_text_seam file = code_text_fed (59 ∷ 10 ∷ file)
+  pub code_text_joint : (file : List ℕ) → code_text (fed source (59 ∷ 10 ∷ file)) ≡ fed (code_text source) (59 ∷ 10 ∷ code_text file)
+  code_text_joint file = code_text_fed (59 ∷ 10 ∷ file)

@@ -18,8 +18,8 @@ use Rattle.gms_lex.proofs.ReadingLemmas.{lexeme_within}
 use Rattle.gms_joint_source.specs.JointSources.{joint_source}
 use Rattle.gms_joint_source.proofs.Feeds.{fed, ends_in_return, no_return_drop}
 use Rattle.gms_joint_source.proofs.FedTokens.{piece_fed}
-use Rattle.gms_joint_source.proofs.Spaces.{Seam, in_list_now, blank_tokens, blank_list, joining}
-use Rattle.gms_joint_source.proofs.JointLines.{code_no_return, code_text_seam}
+use Rattle.gms_joint_source.proofs.Spaces.{Joint, in_list_now, blank_tokens, blank_list, joining}
+use Rattle.gms_joint_source.proofs.JointLines.{code_no_return, code_text_joint}
 
 -- ---- pieces
 
@@ -28,7 +28,7 @@ use Rattle.gms_joint_source.proofs.JointLines.{code_no_return, code_text_seam}
 record GoOn (Clean : Type 0) (place : ℕ) (rest source : List ℕ) (start : ℕ) (pieces longer : List Lexeme) : Type 0 where
   pub following : List Token
   pub is : tokens_of source start longer ≡ tokens_of source start pieces ++ following
-  pub joining : Seam Clean place rest following
+  pub joining : Joint Clean place rest following
 
 go_on_all : (source : List ℕ) (start : ℕ) (current : Mode) (text rest : List ℕ) (pieces longer : List Lexeme) (last end : Mode) → ends_in_return text ≡ false → space_length text ≡ length text → IsMadeOf current text pieces last [] → IsMadeOf current (fed text (59 ∷ rest)) longer end [] → GoOn (in_list_now last ≡ false) (start + length text + 1) rest source start pieces longer
 go_on_all source start current text rest pieces longer last end h all made more = record {
@@ -94,20 +94,20 @@ tokens_same source more start (p ∷ pieces) le =
 
 -- Tokens of a saved source, without its end; and those of a joint source, which are these, the
 -- join, and the end.
-pub record FrontTokens (Clean : Type 0) (saved file : List ℕ) (tokens all : List Token) : Type 0 where
+pub record PrefixTokens (Clean : Type 0) (saved file : List ℕ) (tokens all : List Token) : Type 0 where
   pub own : List Token
   pub tokens_are : tokens ≡ own ++ end_token saved ∷ []
   pub following : List Token
   pub all_are : all ≡ own ++ following ++ end_token (joint_source saved file) ∷ []
-  pub joining : Seam Clean (length saved + 1) (10 ∷ code_text file) following
+  pub joining : Joint Clean (length saved + 1) (10 ∷ code_text file) following
 
 -- where the tokens of the saved source end outside a list there are no line ends before the `;`
-pub front_tokens : (saved file : List ℕ) (tokens all : List Token) (is : IsTokens saved tokens) → IsTokens (joint_source saved file) all → FrontTokens (in_list_now is.has.last ≡ false) saved file tokens all
-front_tokens saved file tokens all is are =
+pub prefix_tokens : (saved file : List ℕ) (tokens all : List Token) (is : IsTokens saved tokens) → IsTokens (joint_source saved file) all → PrefixTokens (in_list_now is.has.last ≡ false) saved file tokens all
+prefix_tokens saved file tokens all is are =
     let good : (fault : ByteFault) → IsInLines 0 false (lines saved) fault → ⊥ = λ fault h. is.sound fault (inl h) in
     let joint : List ℕ = joint_source saved file in
     let text : List ℕ = code_text saved in
-    let made : IsMadeOf Code (fed text (59 ∷ 10 ∷ code_text file)) are.has.pieces are.has.last [] = subst (λ t. IsMadeOf Code t are.has.pieces are.has.last []) (code_text_seam saved good file) are.has.made in
+    let made : IsMadeOf Code (fed text (59 ∷ 10 ∷ code_text file)) are.has.pieces are.has.last [] = subst (λ t. IsMadeOf Code t are.has.pieces are.has.last []) (code_text_joint saved good file) are.has.made in
     let place : 0 + length text + 1 ≡ length saved + 1 = omega (arith, length-code_text saved) in
     let g : GoOn (in_list_now is.has.last ≡ false) (0 + length text + 1) (10 ∷ code_text file) joint 0 is.has.pieces are.has.pieces = go_on joint 0 Code text (10 ∷ code_text file) is.has.pieces are.has.pieces is.has.last are.has.last (code_no_return saved good) is.has.made made in
     let own : List Token = tokens_of saved 0 is.has.pieces in
@@ -117,5 +117,5 @@ front_tokens saved file tokens all is are =
       tokens_are = is.has.tokens_are;
       following = g.following;
       all_are = are.has.tokens_are ∙ ap (λ ts. ts ++ end_token joint ∷ []) (g.is ∙ ap (λ ts. ts ++ g.following) same);
-      joining = subst (λ n. Seam (in_list_now is.has.last ≡ false) n (10 ∷ code_text file) g.following) place g.joining;
+      joining = subst (λ n. Joint (in_list_now is.has.last ≡ false) n (10 ∷ code_text file) g.following) place g.joining;
     }

@@ -9,7 +9,7 @@ use Rattle.gms_grammar.specs.LookAhead.{may_begin, may_come_next, IsDecided}
 use Rattle.gms_grammar.specs.Reading.{Found, read, stuck, leads, Reads, entered, entered_stuck, both, second_stuck, again, later_stuck}
 use Rattle.gms_grammar.specs.GamsGrammar.{Nonterminal, Program, Segment, productions, token}
 use Rattle.gms_grammar.specs.GamsLookAhead.{look_ahead}
-use Rattle.gms_grammar.proofs.Basics.{or_left, behind_same}
+use Rattle.gms_grammar.proofs.Basics.{or_left, after_same}
 use Rattle.gms_joint_source.specs.JointSources.{attach}
 use Rattle.gms_grammar.proofs.Starts.{Follows, Starts, starts, led}
 use Rattle.gms_grammar.proofs.Sound.{sound}
@@ -113,7 +113,7 @@ module _ {D : Type 0} where
         let stops = gams_read_stops known Program Whole last joined reads in
         let all : yield joined ≡ Whole = stops_once productions (the Program) Whole (yield joined) last Whole [] stops whole_stops in
         let same : joined ≡ whole = gams_unique Program joined whole (gams_read_tree Program Whole last joined reads) is_whole all in
-        let nothing : [] ≡ last = behind_same Whole [] last (append-nil Whole ∙ stops.parts ∙ ap (λ w. w ++ last) all) in
+        let nothing : [] ≡ last = after_same Whole [] last (append-nil Whole ∙ stops.parts ∙ ap (λ w. w ++ last) all) in
         let tree_is = sound productions look_ahead r in
         by_tree tree tree_is.0 (tree_is.1 ∙ ap (λ w. yield tree ++ w) (sym nothing) ∙ append-nil (yield tree)) (sym same)
       where

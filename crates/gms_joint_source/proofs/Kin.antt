@@ -119,9 +119,9 @@ module _ (first second : List ℕ) (names wider labels larger : List (List ℕ))
   constant_kin : {test : Terminal → Bool} {tree : Derivation} → Kin (one test) tree → constant_in first names labels tree ≡ constant_in second wider larger tree
   constant_kin {tree = tree} k = ap (λ t. constant_of (terminal_in tree) t (number_meant t)) (text_kin k)
 
-  pub names_behind_kin : {tree : Derivation} → Kin (many (token Comma · name)) tree → following_names first names labels tree ≡ following_names second wider larger tree
-  names_behind_kin of_nil = refl
-  names_behind_kin (of_more (of_both comma it) others) = ap₂ (λ n ns. n ∷ ns) (name_kin it) (names_behind_kin others)
+  pub names_after_kin : {tree : Derivation} → Kin (many (token Comma · name)) tree → following_names first names labels tree ≡ following_names second wider larger tree
+  names_after_kin of_nil = refl
+  names_after_kin (of_more (of_both comma it) others) = ap₂ (λ n ns. n ∷ ns) (name_kin it) (names_after_kin others)
 
   choices_kin : {tree : Derivation} (k : Kin (many (token Or · the Conjunction)) tree) → Within Same k → choices first names labels tree ≡ choices second wider larger tree
   choices_kin of_nil w = refl
@@ -260,7 +260,7 @@ module _ (first second : List ℕ) (names wider labels larger : List (List ℕ))
   of_control (of_both sets (of_some (of_node k _))) w = ap₂ (λ ns (t : Syntax Rational). over_where ns t) (sets_kin sets w.0) w.1.1
 
   of_names : {tree : Derivation} (k : Kin (productions NameList) tree) → Within Same k → Same NameList (node tree)
-  of_names (of_both it others) w = ap₂ (λ n ns. n ∷ ns) (name_kin it) (names_behind_kin others)
+  of_names (of_both it others) w = ap₂ (λ n ns. n ∷ ns) (name_kin it) (names_after_kin others)
 
   pub rule : Rule Same
   rule Expression tree k a w = of_expression k w

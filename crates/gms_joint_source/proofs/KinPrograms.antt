@@ -46,14 +46,14 @@ module _ (first second : List ℕ) (names wider labels larger : List (List ℕ))
   of_loop (of_both sign (of_both opening (of_both (of_both (of_node sets _) (of_both comma (of_node body _))) closing))) e w =
       ap₂ (λ (c : Control Rational) (s : Statements Rational). loops c s) e.1.1.0.0.1 w.1.1.0.1.1.1
 
-  behind_same : {tree : Derivation} (k : K (opt (token terminal.Semicolon · opt (the LoopBody))) tree) → Inside SaysRun k → after_semicolon first names labels tree ≡ after_semicolon second wider larger tree
-  behind_same of_none w = refl
-  behind_same (of_some (of_both sign of_none)) w = refl
-  behind_same (of_some (of_both sign (of_some (of_node it _)))) w = w.1.1
+  after_same : {tree : Derivation} (k : K (opt (token terminal.Semicolon · opt (the LoopBody))) tree) → Inside SaysRun k → after_semicolon first names labels tree ≡ after_semicolon second wider larger tree
+  after_same of_none w = refl
+  after_same (of_some (of_both sign of_none)) w = refl
+  after_same (of_some (of_both sign (of_some (of_node it _)))) w = w.1.1
 
   of_body : {tree : Derivation} (k : K (productions LoopBody) tree) → Inside SaysRun k → SaysRun LoopBody (node tree)
   of_body (of_both (of_node {tree = tree} it _) others) w =
-      ap₂ (λ (act : Act Rational) (rest : Statements Rational). statement (place_in (node tree)) act rest) w.0.1 (behind_same others w.1)
+      ap₂ (λ (act : Act Rational) (rest : Statements Rational). statement (place_in (node tree)) act rest) w.0.1 (after_same others w.1)
 
   -- a display, options, a solve, an abort, or a loop
   other_same : {tree : Derivation} (k : K (the DisplayStatement ∣ the OptionStatement ∣ the SolveStatement ∣ the AbortStatement ∣ the LoopStatement) tree) → Acted k → Inside SaysRun k → display_or_other first names labels tree ≡ display_or_other second wider larger tree

@@ -52,8 +52,8 @@ indices_after (trees.lagged n op at amount others) = others
 abbrev following_indices : List ℕ → List (List ℕ) → List (List ℕ) → Derivation → trees.Indices Rational
 following_indices source names labels tree = indices_after (head_indices source names labels (node (left (pair none tree))))
 
-abbrev act_behind : List ℕ → List (List ℕ) → List (List ℕ) → Aim Rational → Derivation → Act Rational
-act_behind source names labels aim tree = act_of_head source names labels aim (node (left (pair none tree)))
+abbrev act_after : List ℕ → List (List ℕ) → List (List ℕ) → Aim Rational → Derivation → Act Rational
+act_after source names labels aim tree = act_of_head source names labels aim (node (left (pair none tree)))
 
 module _ (first second : List ℕ) (names wider labels larger : List (List ℕ)) where
   abbrev K : GamsPart → Derivation → Type 0
@@ -80,9 +80,9 @@ module _ (first second : List ℕ) (names wider labels larger : List (List ℕ))
   InHead tree =
       (head_indices first names labels tree ≡ head_indices second wider larger tree) × ((a b : Aim Rational) → a ≡ b → act_of_head first names labels a tree ≡ act_of_head second wider larger b tree)
 
-  abbrev pub BehindIndex : Derivation → Type 0
-  BehindIndex tree =
-      (following_indices first names labels tree ≡ following_indices second wider larger tree) × ((a b : Aim Rational) → a ≡ b → act_behind first names labels a tree ≡ act_behind second wider larger b tree)
+  abbrev pub AfterIndex : Derivation → Type 0
+  AfterIndex tree =
+      (following_indices first names labels tree ≡ following_indices second wider larger tree) × ((a b : Aim Rational) → a ≡ b → act_after first names labels a tree ≡ act_after second wider larger b tree)
 
   abbrev pub SaysActed : Nonterminal → Derivation → Type 0
   SaysActed Sides tree = sides_in first names labels tree ≡ sides_in second wider larger tree
@@ -90,7 +90,7 @@ module _ (first second : List ℕ) (names wider labels larger : List (List ℕ))
   SaysActed AfterHead tree = FollowingHead tree
   SaysActed HeadIndices tree = InHead tree
   SaysActed AfterHeadName tree = (it : Derivation) → name_in first names labels it ≡ name_in second wider larger it → InHead (node (right (pair it tree)))
-  SaysActed AfterHeadIndex tree = BehindIndex tree
+  SaysActed AfterHeadIndex tree = AfterIndex tree
   SaysActed NamedStatement tree = named_act first names labels tree ≡ named_act second wider larger tree
   SaysActed Assignment tree = assignment_act first names labels tree ≡ assignment_act second wider larger tree
   SaysActed AliasStatement tree = alias_act first names labels tree ≡ alias_act second wider larger tree

@@ -14,7 +14,7 @@ use Rattle.gms_joint_source.proofs.NameRoles.{SameName, names_throughout}
 use Rattle.gms_joint_source.proofs.IndexTexts.{SameText, texts_throughout}
 use Rattle.gms_joint_source.proofs.RangeLabels.{SameBytes, ranges_throughout}
 use Rattle.gms_joint_source.proofs.Kin.{Alike, Kin, of_token, of_node, of_both, of_left, of_right, of_none, of_some, of_nil, of_more}
-use Rattle.gms_joint_source.proofs.Throughouts.{Throughout, NoMore, Stands}
+use Rattle.gms_joint_source.proofs.Throughouts.{Throughout, NoMore, Occurs}
 
 module _ (first second : List ℕ) (names wider labels larger : List (List ℕ)) (whole : List KindedToken) (keep_name : (text : List ℕ) (n : ℕ) → place_of names text ≡ Some n → place_of wider text ≡ Some n) (keep_label : (text : List ℕ) (n : ℕ) → place_of labels text ≡ Some n → place_of larger text ≡ Some n) where
   abbrev Names : GamsPart → Derivation → Type 0
@@ -39,7 +39,7 @@ module _ (first second : List ℕ) (names wider labels larger : List (List ℕ))
   kin_of _ _ h n l r = absurd h
 
 module _ (limit : ℕ) (first second : List ℕ) (names wider labels larger : List (List ℕ)) (keep_name : (text : List ℕ) (n : ℕ) → place_of names text ≡ Some n → place_of wider text ≡ Some n) (keep_label : (text : List ℕ) (n : ℕ) → place_of labels text ≡ Some n → place_of larger text ≡ Some n) where
-  by_reading : (tree : Derivation) → IsTree productions (productions Program) tree → HaveItems limit first labels (yield tree) → Stands first second names labels (yield tree) start (yield tree) → Reads productions look_ahead (the Program) (yield tree) (read (node tree) []) → Kin first second names wider labels larger (the Program) (node tree)
+  by_reading : (tree : Derivation) → IsTree productions (productions Program) tree → HaveItems limit first labels (yield tree) → Occurs first second names labels (yield tree) start (yield tree) → Reads productions look_ahead (the Program) (yield tree) (read (node tree) []) → Kin first second names wider labels larger (the Program) (node tree)
   by_reading tree h tables e (entered r) =
       of_node
       (kin_of first second names wider labels larger (yield tree) keep_name keep_label (productions Program) tree h
@@ -48,6 +48,6 @@ module _ (limit : ℕ) (first second : List ℕ) (names wider labels larger : Li
       (ranges_throughout limit first second names wider labels larger (yield tree) keep_label tables tree r e)) tt
 
   -- the derivation of a program
-  pub program_kin : (tree : Derivation) → IsTree productions (the Program) tree → HaveItems limit first labels (yield tree) → Stands first second names labels (yield tree) start (yield tree) → Kin first second names wider labels larger (the Program) tree
+  pub program_kin : (tree : Derivation) → IsTree productions (the Program) tree → HaveItems limit first labels (yield tree) → Occurs first second names labels (yield tree) start (yield tree) → Kin first second names wider labels larger (the Program) tree
   program_kin (node tree) h tables e = by_reading tree h tables e (gams_complete Program (node tree) h)
   program_kin _ h tables e = absurd h

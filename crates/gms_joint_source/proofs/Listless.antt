@@ -13,7 +13,7 @@ use Rattle.gms_grammar.specs.GamsGrammar.{Nonterminal, Expression, Program, Segm
 use Rattle.gms_expressions.specs.Outcomes.{kinded_tokens}
 use Rattle.gms_joint_source.proofs.Flows.{In, has, is_right, Leads, flows}
 use Rattle.gms_joint_source.proofs.Spaces.{in_list_now}
-use Rattle.gms_joint_source.proofs.Spots.{Spot, out, item, named, domain, bare, rest, list, same, same_is, spot_of, sort_of, step, list_stands}
+use Rattle.gms_joint_source.proofs.Spots.{Spot, out, item, named, domain, bare, rest, list, same, same_is, spot_of, sort_of, step, list_occurs}
 use Rattle.gms_joint_source.proofs.ModePlaces.{LeadTo, pieces_lead}
 
 -- the places between statements
@@ -98,9 +98,9 @@ exit _ = out ∷ []
 
 -- ---- all kinds
 
-stands_at : (kind : Terminal) → get_or terminals (terminal_number kind) Abort ≡ kind
-stands_at Abort = refl
-stands_at _ = refl
+occurs_at : (kind : Terminal) → get_or terminals (terminal_number kind) Abort ≡ kind
+occurs_at Abort = refl
+occurs_at _ = refl
 
 is_below : (kind : Terminal) → ltb (terminal_number kind) (length terminals) ≡ true
 is_below Abort = refl
@@ -112,7 +112,7 @@ in_at (x ∷ xs) zero d h = inl refl
 in_at (x ∷ xs) (suc k) d h = inr (in_at xs k d (omega arith))
 
 every_kind : (kind : Terminal) → In kind terminals
-every_kind kind = subst (λ (k : Terminal). In k terminals) (stands_at kind) (in_at terminals (terminal_number kind) Abort (ltb-true (terminal_number kind) (length terminals) (is_below kind)))
+every_kind kind = subst (λ (k : Terminal). In k terminals) (occurs_at kind) (in_at terminals (terminal_number kind) Abort (ltb-true (terminal_number kind) (length terminals) (is_below kind)))
 
 abbrev next : Spot → Terminal → List Spot
 next spot kind = step spot (sort_of kind)
@@ -142,6 +142,6 @@ no_list source tokens is tree is_tree yields =
     let there : LeadTo out (yield tree) lead.0 = subst (λ ts. LeadTo out ts lead.0) yields lead.1 in
     let found : has same same_is between lead.0 ≡ true = flows same same_is productions terminals every_kind next entry exit all_right (the Program) tree is_tree (out ∷ []) refl out lead.0 refl (same_leads (yield tree) out lead.0 there) in
     false_from_ne_true (in_list_now is.has.last)
-    (λ h. let at_list : lead.0 ≡ list = list_stands lead.0 is.has.last lead.2 (list_place is.has.last h) in
+    (λ h. let at_list : lead.0 ≡ list = list_occurs lead.0 is.has.last lead.2 (list_place is.has.last h) in
     let wrong : false ≡ true = ap (has same same_is between) (sym at_list) ∙ found in
     cc)

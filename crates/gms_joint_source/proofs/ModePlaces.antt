@@ -30,7 +30,7 @@ use Rattle.gms_grammar.specs.declared.terminal.Terminal.{Terminal}
 use Rattle.gms_expressions.specs.Words.{terminal_of}
 use Rattle.gms_expressions.specs.Outcomes.{kinded_tokens}
 use Rattle.gms_joint_source.proofs.Flows.{has}
-use Rattle.gms_joint_source.proofs.Spots.{Spot, same, same_is, spot_of, sort_of, step, CanStand, token_leads, StandsFor, stands_leads, stands_gap, stands_line, stands_remark}
+use Rattle.gms_joint_source.proofs.Spots.{Spot, same, same_is, spot_of, sort_of, step, CanOccur, token_leads, OccursFor, occurs_leads, occurs_gap, occurs_line, occurs_remark}
 
 -- ---- which tokens occur in a mode
 
@@ -87,21 +87,21 @@ plain_free : (test : Piece → Bool) (current : Mode) (text : List ℕ) → test
 plain_free test current text g l b h =
     if_free test (begins is_blank text) _ _ g (if_free test (is_line_end text) _ _ (line_free test (line_ends current) text l b) h)
 
-can_stand : (current : Mode) (k : Kind) (text : List ℕ) (n : ℕ) → piece_at current text ≡ Ok (record { piece = piece.Token k; length = n }) → CanStand current k
-can_stand (mode.Item s) kind.Label text n e =
+can_occur : (current : Mode) (k : Kind) (text : List ℕ) (n : ℕ) → piece_at current text ≡ Ok (record { piece = piece.Token k; length = n }) → CanOccur current k
+can_occur (mode.Item s) kind.Label text n e =
     let free : IsFree is_label (Ok (record { piece = piece.Token kind.Label; length = n })) = subst (IsFree is_label) e (plain_free is_label (mode.Item s) text refl refl refl (code_free text)) in
     absurd (let z : true ≡ false = free in cc)
-can_stand (mode.Named s) kind.Word text n e =
+can_occur (mode.Named s) kind.Word text n e =
     let free : IsFree is_a_word (Ok (record { piece = piece.Token kind.Word; length = n })) = subst (IsFree is_a_word) e (plain_free is_a_word (mode.Named s) text refl refl refl (name_free text)) in
     absurd (let z : true ≡ false = free in cc)
-can_stand (mode.Bare s) kind.Word text n e =
+can_occur (mode.Bare s) kind.Word text n e =
     let free : IsFree is_a_word (Ok (record { piece = piece.Token kind.Word; length = n })) = subst (IsFree is_a_word) e (plain_free is_a_word (mode.Bare s) text refl refl refl (domain_free text)) in
     absurd (let z : true ≡ false = free in cc)
-can_stand (mode.Item s) _ text n e = tt
-can_stand (mode.Named s) _ text n e = tt
-can_stand (mode.Bare s) _ text n e = tt
-can_stand mode.Code k text n e = tt
-can_stand _ k text n e = tt
+can_occur (mode.Item s) _ text n e = tt
+can_occur (mode.Named s) _ text n e = tt
+can_occur (mode.Bare s) _ text n e = tt
+can_occur mode.Code k text n e = tt
+can_occur _ k text n e = tt
 
 -- ---- positions after tokens
 
@@ -112,7 +112,7 @@ LeadTo s (token ∷ tokens) last = (t : Spot) × (has same same_is (step s (sort
 
 -- Tokens lead from a place to one that stands for the last mode.
 abbrev LeadOn : List ℕ → Mode → Spot → List Token → Type 0
-LeadOn source last spot tokens = (t : Spot) × LeadTo spot (kinded_tokens source tokens) t × StandsFor t last
+LeadOn source last spot tokens = (t : Spot) × LeadTo spot (kinded_tokens source tokens) t × OccursFor t last
 
 -- a word of the code is the same in the source
 word_same : (source : List ℕ) (start : ℕ) (k : Kind) (n : ℕ) → start + n ≤ length source → IsNamed (piece.Token k) n (drop start (code_text source)) → k ≡ kind.Word → take n (drop start (code_text source)) ≡ take (start + n - start) (drop start source)
@@ -126,27 +126,27 @@ word_same source start kind.Break n le named e = cc
 word_same source start kind.TableLine n le named e = cc
 word_same source start kind.End n le named e = cc
 
-lead_piece : (source : List ℕ) (start : ℕ) (current last : Mode) (p : Piece) (n : ℕ) (spot : Spot) (others : List Token) → start + n ≤ length source → piece_at current (drop start (code_text source)) ≡ Ok (record { piece = p; length = n }) → IsNamed p n (drop start (code_text source)) → StandsFor spot current → ((s : Spot) → StandsFor s (mode_after current p (take n (drop start (code_text source)))) → LeadOn source last s others) → LeadOn source last spot (token_of (place_of_byte source start) p start (start + n) ++ others)
-lead_piece source start current last piece.Gap n spot others le there named stands on = on spot (stands_gap spot current stands)
-lead_piece source start current last piece.LineEnd n spot others le there named stands on = on spot (stands_line spot current stands)
-lead_piece source start current last piece.Remark n spot others le there named stands on = on spot (stands_remark spot current stands)
-lead_piece source start current last (piece.Token k) n spot others le there named stands on =
+lead_piece : (source : List ℕ) (start : ℕ) (current last : Mode) (p : Piece) (n : ℕ) (spot : Spot) (others : List Token) → start + n ≤ length source → piece_at current (drop start (code_text source)) ≡ Ok (record { piece = p; length = n }) → IsNamed p n (drop start (code_text source)) → OccursFor spot current → ((s : Spot) → OccursFor s (mode_after current p (take n (drop start (code_text source)))) → LeadOn source last s others) → LeadOn source last spot (token_of (place_of_byte source start) p start (start + n) ++ others)
+lead_piece source start current last piece.Gap n spot others le there named occurs on = on spot (occurs_gap spot current occurs)
+lead_piece source start current last piece.LineEnd n spot others le there named occurs on = on spot (occurs_line spot current occurs)
+lead_piece source start current last piece.Remark n spot others le there named occurs on = on spot (occurs_remark spot current occurs)
+lead_piece source start current last (piece.Token k) n spot others le there named occurs on =
     let text : List ℕ = take n (drop start (code_text source)) in
     let bytes : List ℕ = take (start + n - start) (drop start source) in
     let following : Mode = after_token current k text in
     let later = on (spot_of following) (inl refl) in
-    let leads = stands_leads spot current following (sort_of (terminal_of k bytes)) stands (token_leads current k text bytes (can_stand current k (drop start (code_text source)) n there) (word_same source start k n le named)) in
+    let leads = occurs_leads spot current following (sort_of (terminal_of k bytes)) occurs (token_leads current k text bytes (can_occur current k (drop start (code_text source)) n there) (word_same source start k n le named)) in
     (later.0, (spot_of following, leads, later.1), later.2)
 
 -- the tokens of pieces lead to the place of the last mode
-pub pieces_lead : (source : List ℕ) (start : ℕ) (current : Mode) (pieces : List Lexeme) (last : Mode) (spot : Spot) → start ≤ length source → IsMadeOf current (drop start (code_text source)) pieces last [] → StandsFor spot current → LeadOn source last spot (tokens_of source start pieces)
-pieces_lead source start current [] last spot within made stands = (spot, refl, subst (StandsFor spot) (sym made.0) stands)
-pieces_lead source start current (p ∷ pieces) last spot within made stands =
+pub pieces_lead : (source : List ℕ) (start : ℕ) (current : Mode) (pieces : List Lexeme) (last : Mode) (spot : Spot) → start ≤ length source → IsMadeOf current (drop start (code_text source)) pieces last [] → OccursFor spot current → LeadOn source last spot (tokens_of source start pieces)
+pieces_lead source start current [] last spot within made occurs = (spot, refl, subst (OccursFor spot) (sym made.0) occurs)
+pieces_lead source start current (p ∷ pieces) last spot within made occurs =
     let text : List ℕ = drop start (code_text source) in
     let w = lexeme_within current text p made.0 in
     let le : start + p.length ≤ length source = omega (arith, w.1, length-drop start (code_text source), length-code_text source) in
     let named : IsNamed p.piece p.length text = subst (IsNamedRead text) made.0 (piece_named current text) in
     let following : Mode = mode_after current p.piece (take p.length text) in
     let others : IsMadeOf following (drop (start + p.length) (code_text source)) pieces last [] = subst (λ t. IsMadeOf following t pieces last []) (drop-drop p.length start (code_text source)) made.1 in
-    lead_piece source start current last p.piece p.length spot (tokens_of source (start + p.length) pieces) le made.0 named stands
+    lead_piece source start current last p.piece p.length spot (tokens_of source (start + p.length) pieces) le made.0 named occurs
     (λ s h. pieces_lead source (start + p.length) following pieces last s le others h)

@@ -20,7 +20,7 @@ use Rattle.gms_parse.specs.InnerReadings.{Derivation}
 use Rattle.gms_parse.proofs.TokenKinds.{begins}
 use Rattle.gms_parse.proofs.StateLemmas.{names_kept}
 use Rattle.gms_joint_source.proofs.Tests.{IsNameTest, is_name_test}
-use Rattle.gms_joint_source.proofs.Throughouts.{Throughout, NoMore, Stands, is_right, passed}
+use Rattle.gms_joint_source.proofs.Throughouts.{Throughout, NoMore, Occurs, is_right, passed}
 
 -- what a name would be here: one that is entered, a suffix after a dot, the word after `using`, or
 -- a word of an option
@@ -160,11 +160,11 @@ module _ (first second : List ℕ) (names labels wider : List (List ℕ)) (whole
   kept text other e (Some n) h s = h ∙ sym (ap (place_of wider) e ∙ keep text n h)
   kept text other e None h s = cc
 
-  there : (w : ReaderState) (t : KindedToken) (rest : List KindedToken) → is_name w t.0 ≡ true → Stands first second names labels whole w (t ∷ rest) → (o : Option ℕ) → place_of (reader_after first w t (kind_of rest)).names (token_text first t.1) ≡ o → IsSome o → IsSome (place_of names (token_text first t.1))
+  there : (w : ReaderState) (t : KindedToken) (rest : List KindedToken) → is_name w t.0 ≡ true → Occurs first second names labels whole w (t ∷ rest) → (o : Option ℕ) → place_of (reader_after first w t (kind_of rest)).names (token_text first t.1) ≡ o → IsSome o → IsSome (place_of names (token_text first t.1))
   there w t rest named e (Some n) h s = ap is_some (ap (λ (ns : List (List ℕ)). place_of ns (token_text first t.1)) e.names_are ∙ names_kept first (reader_after first w t (kind_of rest)) rest terminal.End (token_text first t.1) n h)
   there w t rest named e None h s = cc
 
-  of_token : (test : Terminal → Bool) (role : Role) (w : ReaderState) (t : KindedToken) (rest : List KindedToken) → allowed test role ≡ true → test t.0 ≡ true → Has role w → Stands first second names labels whole w (t ∷ rest) → SameName test t
+  of_token : (test : Terminal → Bool) (role : Role) (w : ReaderState) (t : KindedToken) (rest : List KindedToken) → allowed test role ≡ true → test t.0 ≡ true → Has role w → Occurs first second names labels whole w (t ∷ rest) → SameName test t
   of_token test role w t rest free pass h e named =
       let is_bare_here : is_bare role ≡ true = implied (is_name_test test) (is_bare role) free (and_both (test terminal.Name) _ named.0 named.1) in
       let at : role_of w.keyword (last_kind w.before) ≡ bare = h ∙ bare_role role is_bare_here in
@@ -175,7 +175,7 @@ module _ (first second : List ℕ) (names labels wider : List (List ℕ)) (whole
       (there w t rest enters e (place_of (reader_after first w t (kind_of rest)).names (token_text first t.1)) refl here)
 
   -- each name of a program that is read from its start has the same number in both
-  pub names_throughout : (tree : Derivation) → Reads productions look_ahead (productions Program) whole (read tree []) → Stands first second names labels whole start whole → Throughout SameName NoMore (productions Program) tree
+  pub names_throughout : (tree : Derivation) → Reads productions look_ahead (productions Program) whole (read tree []) → Occurs first second names labels whole start whole → Throughout SameName NoMore (productions Program) tree
   names_throughout tree r e =
       (passed each each_is next allowed entry exit atom first second names labels whole Has SameName NoMore (step first) of_token (λ n inner role w tokens rest k h s x. tt)
       (λ n inner role w tokens rest k h s x y. absurd (let z : false ≡ true = k in cc)) all_right r (λ role. between role) bare start refl refl e).all

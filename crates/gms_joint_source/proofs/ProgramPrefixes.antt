@@ -14,9 +14,9 @@ use Rattle.gms_parse.specs.Programs.{segment, segments, statements_of}
 use Rattle.gms_parse.specs.InnerReadings.{Derivation}
 use Rattle.gms_parse.specs.ReadStates.{start, reader_after_all}
 use Rattle.gms_joint_source.specs.JointSources.{joint_source, attach, BeginsWith}
-use Rattle.gms_joint_source.proofs.JointDerivations.{have_front, begins_with}
+use Rattle.gms_joint_source.proofs.JointDerivations.{have_prefix, begins_with}
 use Rattle.gms_joint_source.specs.Programs.{IsProgramPrefix}
-use Rattle.gms_joint_source.proofs.StatePrefixes.{FrontSeen, front_seen, front_names, front_labels}
+use Rattle.gms_joint_source.proofs.StatePrefixes.{PrefixSeen, prefix_seen, prefix_names, prefix_labels}
 use Rattle.gms_joint_source.proofs.Kin.{Kin}
 use Rattle.gms_joint_source.proofs.Kinships.{program_kin}
 use Rattle.gms_joint_source.proofs.KinPrograms.{statements_same}
@@ -64,15 +64,15 @@ module _ (limit : ℕ) (saved file : List ℕ) (first whole : ProgramView) (p : 
   abbrev pub Joint : List ℕ
   Joint = joint_source saved file
 
-  prefix : FrontSeen saved file (yield p.is.tree) (yield q.is.tree)
+  prefix : PrefixSeen saved file (yield p.is.tree) (yield q.is.tree)
   prefix =
-      front_seen saved file p.tokens q.tokens (yield p.is.tree) (yield q.is.tree) p.is.end q.is.end p.are_tokens (have_front saved file p.tokens q.tokens p.are_tokens q.are_tokens) p.is.tokens_are q.is.tokens_are
+      prefix_seen saved file p.tokens q.tokens (yield p.is.tree) (yield q.is.tree) p.is.end q.is.end p.are_tokens (have_prefix saved file p.tokens q.tokens p.are_tokens q.are_tokens) p.is.tokens_are q.is.tokens_are
 
   pub names_go_on : IsPrefix first.names whole.names
-  names_go_on = subst (λ (ns : List (List ℕ)). IsPrefix ns whole.names) (sym p.is.names_are) (subst (λ (ns : List (List ℕ)). IsPrefix (reader_after_all saved start (yield p.is.tree) End).names ns) (sym q.is.names_are) (front_names saved file (yield p.is.tree) (yield q.is.tree) prefix))
+  names_go_on = subst (λ (ns : List (List ℕ)). IsPrefix ns whole.names) (sym p.is.names_are) (subst (λ (ns : List (List ℕ)). IsPrefix (reader_after_all saved start (yield p.is.tree) End).names ns) (sym q.is.names_are) (prefix_names saved file (yield p.is.tree) (yield q.is.tree) prefix))
 
   pub labels_go_on : IsPrefix first.labels whole.labels
-  labels_go_on = subst (λ (ls : List (List ℕ)). IsPrefix ls whole.labels) (sym p.is.labels_are) (subst (λ (ls : List (List ℕ)). IsPrefix (reader_after_all saved start (yield p.is.tree) End).labels ls) (sym q.is.labels_are) (front_labels saved file (yield p.is.tree) (yield q.is.tree) prefix))
+  labels_go_on = subst (λ (ls : List (List ℕ)). IsPrefix ls whole.labels) (sym p.is.labels_are) (subst (λ (ls : List (List ℕ)). IsPrefix (reader_after_all saved start (yield p.is.tree) End).labels ls) (sym q.is.labels_are) (prefix_labels saved file (yield p.is.tree) (yield q.is.tree) prefix))
 
   -- the derivation of the saved program, in both
   pub kin : Kin saved Joint first.names whole.names first.labels whole.labels (the Program) p.is.tree
@@ -90,5 +90,5 @@ module _ (limit : ℕ) (saved file : List ℕ) (first whole : ProgramView) (p : 
       let on = begun Joint whole.names whole.labels q.is.tree p.is.tree begins p.is.is_tree in
       (on.0, q.is.statements_are ∙ on.1 ∙ ap (λ (s : Statements Number). followed_by s on.0) (sym (p.is.statements_are ∙ statements_same saved Joint first.names whole.names first.labels whole.labels kin)))
 
-  pub is_front : IsProgramPrefix first whole
-  is_front = record { names = names_go_on; labels = labels_go_on; statements = statements_go_on }
+  pub is_prefix : IsProgramPrefix first whole
+  is_prefix = record { names = names_go_on; labels = labels_go_on; statements = statements_go_on }

@@ -36,7 +36,7 @@ use Rattle.gms_parse.proofs.TokenKinds.{same_kind}
 use Rattle.gms_joint_source.proofs.StatePrefixes.{AreAlike}
 use Rattle.gms_joint_source.proofs.IndexTexts.{kept, stays}
 use Rattle.gms_joint_source.proofs.Kin.{Alike}
-use Rattle.gms_joint_source.proofs.Throughouts.{Throughout, Stands, stands_on, is_right, passed}
+use Rattle.gms_joint_source.proofs.Throughouts.{Throughout, Occurs, occurs_on, is_right, passed}
 
 -- ---- what the last tokens are
 
@@ -175,7 +175,7 @@ all_in table (text ∷ texts) =
 
 module _ (first second : List ℕ) (names wider labels larger : List (List ℕ)) (whole : List KindedToken) (keep : (text : List ℕ) (n : ℕ) → place_of labels text ≡ Some n → place_of larger text ≡ Some n) where
   abbrev Here : ReaderState → List KindedToken → Type 0
-  Here w tokens = Stands first second names labels whole w tokens
+  Here w tokens = Occurs first second names labels whole w tokens
 
   -- a token has the same bytes in both
   abbrev pub SameBytes : (Terminal → Bool) → KindedToken → Type 0
@@ -196,11 +196,11 @@ module _ (first second : List ℕ) (names wider labels larger : List (List ℕ))
   -- a label alone
   one_label : (w : ReaderState) (t : KindedToken) (rest : List KindedToken) → is terminal.Label t.0 ≡ true → range_start w.before ≡ None → is terminal.Star (kind_of rest) ≡ false → Here w (t ∷ rest) →
       Alike first second names wider labels larger Range (node (pair (leaf t) none))
-  one_label w t rest h none_before none_behind e =
+  one_label w t rest h none_before none_after e =
       let text : List ℕ = unquoted (token_text first t.1) in
       let new : new_labels first w t (kind_of rest) ≡ text ∷ [] =
-      label_enters first w t (kind_of rest) None (same_kind terminal.Label t.0 h) none_before ∙ if_skipped (is terminal.Star (kind_of rest)) [] (text ∷ []) none_behind in
-      let following : Here (reader_after first w t (kind_of rest)) rest = stands_on first second names labels whole w t rest e in
+      label_enters first w t (kind_of rest) None (same_kind terminal.Label t.0 h) none_before ∙ if_skipped (is terminal.Star (kind_of rest)) [] (text ∷ []) none_after in
+      let following : Here (reader_after first w t (kind_of rest)) rest = occurs_on first second names labels whole w t rest e in
       let here : IsSome (place_of (reader_after first w t (kind_of rest)).labels text) =
       subst (λ (ts : List (List ℕ)). IsSome (place_of (all_entered w.labels ts) text)) (sym new) (place_of-entered w.labels text) in
       ap (λ (o : Option ℕ). or_0 o ∷ [])
@@ -216,9 +216,9 @@ module _ (first second : List ℕ) (names wider labels larger : List (List ℕ))
       let one : ReaderState = reader_after first w t (kind_of (star ∷ last ∷ rest)) in
       let two : ReaderState = reader_after first one star (kind_of (last ∷ rest)) in
       let three : ReaderState = reader_after first two last (kind_of rest) in
-      let e_one : Here one (star ∷ last ∷ rest) = stands_on first second names labels whole w t (star ∷ last ∷ rest) e in
-      let e_two : Here two (last ∷ rest) = stands_on first second names labels whole one star (last ∷ rest) e_one in
-      let e_three : Here three rest = stands_on first second names labels whole two last rest e_two in
+      let e_one : Here one (star ∷ last ∷ rest) = occurs_on first second names labels whole w t (star ∷ last ∷ rest) e in
+      let e_two : Here two (last ∷ rest) = occurs_on first second names labels whole one star (last ∷ rest) e_one in
+      let e_three : Here three rest = occurs_on first second names labels whole two last rest e_two in
       let begun : range_start two.before ≡ Some t.1 = if_taken (is terminal.Star star.0 && is terminal.Label t.0) (Some t.1) None (and_both (is terminal.Star star.0) (is terminal.Label t.0) k h) in
       let new : new_labels first two last (kind_of rest) ≡ range_texts first from to = label_enters first two last (kind_of rest) (Some t.1) (same_kind terminal.Label last.0 l) begun in
       let there : AreIn three.labels (range_texts first from to) =
@@ -233,9 +233,9 @@ module _ (first second : List ℕ) (names wider labels larger : List (List ℕ))
 
   -- ---- tables
 
-  alike_behind : (u v : List KindedToken) → AreAlike first second (u ++ v) → AreAlike first second v
-  alike_behind [] v a = a
-  alike_behind (t ∷ u) v a = alike_behind u v a.1
+  alike_after : (u v : List KindedToken) → AreAlike first second (u ++ v) → AreAlike first second v
+  alike_after [] v a = a
+  alike_after (t ∷ u) v a = alike_after u v a.1
 
   lines_same : (lines rest : List KindedToken) → AreAlike first second (lines ++ rest) → map (λ (line : KindedToken). words_of line.1.at.line (token_text second line.1)) lines ≡ map (λ (line : KindedToken). words_of line.1.at.line (token_text first line.1)) lines
   lines_same [] rest a = refl
@@ -289,12 +289,12 @@ table_of_lines whole prefix closes {rest = rest} parts h not_empty r = record {
       let last : closes ≡ t = ends_same prefix others closes t e in
       let wrong : terminal.RightParen ≡ terminal.TableLine = same_kind terminal.RightParen closes.0 h ∙ ap (λ (s : KindedToken). s.0) last ∙ k in
       cc;
-  none_behind = none_ahead r;
+  none_after = none_ahead r;
 }
 
 module _ (limit : ℕ) (first second : List ℕ) (names wider labels larger : List (List ℕ)) (whole : List KindedToken) (keep : (text : List ℕ) (n : ℕ) → place_of labels text ≡ Some n → place_of larger text ≡ Some n) (tables : HaveItems limit first labels whole) where
   abbrev Stood : ReaderState → List KindedToken → Type 0
-  Stood w tokens = Stands first second names labels whole w tokens
+  Stood w tokens = Occurs first second names labels whole w tokens
 
   abbrev SameAt : Nonterminal → Derivation → Type 0
   SameAt n tree = Alike first second names wider labels larger n tree
@@ -321,7 +321,7 @@ module _ (limit : ℕ) (first second : List ℕ) (names wider labels larger : Li
       let inner = (sound productions look_ahead d).1 in
       of_lines w (word ∷ name ∷ opens ∷ yield list) closes m
       (e.parts ∙ ap (λ (ts : List KindedToken). reverse w.before ++ (word ∷ name ∷ opens ∷ ts)) inner)
-      (alike_behind first second names wider labels larger whole keep (yield list) (closes ∷ following) (subst (AreAlike first second) inner e.alike.1.1.1)).1 r
+      (alike_after first second names wider labels larger whole keep (yield list) (closes ∷ following) (subst (AreAlike first second) inner e.alike.1.1.1)).1 r
 
   of_node : (n : Nonterminal) (tree : Derivation) (mark : Mark) (w : ReaderState) (tokens rest : List KindedToken) → entry n mark ≡ true → Has mark w → Stood w tokens → Reads productions look_ahead (the n) tokens (read (node tree) rest) → SameAt n (node tree)
   of_node Range tree mark w tokens rest k h e (entered_by r) = of_range first second names wider labels larger whole keep tree w (none_begun mark w.before k h) e r

@@ -37,7 +37,7 @@ use Rattle.gms_lex.specs.Tokens.{IsMadeOf, token_at as token_of, tokens_of}
 use Rattle.gms_lex.proofs.ApartLemmas.{breaks}
 use Rattle.gms_lex.proofs.LineTextLemmas.{length-take_most}
 use Rattle.gms_lex.proofs.ReadingLemmas.{lexeme_within}
-use Rattle.gms_joint_source.proofs.Feeds.{fed, ends_in_return, no_return_behind, no_return_drop, line_end_fed, other_fed, space_all_fed}
+use Rattle.gms_joint_source.proofs.Feeds.{fed, ends_in_return, no_return_after, no_return_drop, line_end_fed, other_fed, space_all_fed}
 use Rattle.gms_joint_source.proofs.FedTokens.{starts, starts_is, find_alike}
 
 -- ---- lists
@@ -86,15 +86,15 @@ no_value_dot : (shape : Shape) (depth : ℕ) (stage : Stage) (text : List ℕ) �
 no_value_dot Parameter depth Spaced text = and-false (depth == 0)
 no_value_dot shape depth stage text = refl
 
-behind_label_semicolon : (shape : Shape) (depth : ℕ) (stage : Stage) (text : List ℕ) → piece_after_label shape depth stage (59 ∷ text) ≡ Ok semicolon_piece
-behind_label_semicolon shape depth stage text =
+after_label_semicolon : (shape : Shape) (depth : ℕ) (stage : Stage) (text : List ℕ) → piece_after_label shape depth stage (59 ∷ text) ≡ Ok semicolon_piece
+after_label_semicolon shape depth stage text =
     ap (λ v. if not v then symbol (59 ∷ text) else (if depth == 0 then element_tail shape (59 ∷ text) else label_token (59 ∷ text))) (no_value_dot shape depth stage text) ∙ symbol_semicolon text
 
 in_list_semicolon : (shape : Shape) (depth : ℕ) (stage : Stage) (text : List ℕ) → in_list shape depth stage (59 ∷ text) ≡ Ok semicolon_piece
 in_list_semicolon shape depth Fresh text = symbol_semicolon text
 in_list_semicolon shape depth Expected text = symbol_semicolon text
-in_list_semicolon shape depth After text = behind_label_semicolon shape depth After text
-in_list_semicolon shape depth Spaced text = behind_label_semicolon shape depth Spaced text
+in_list_semicolon shape depth After text = after_label_semicolon shape depth After text
+in_list_semicolon shape depth Spaced text = after_label_semicolon shape depth Spaced text
 
 token_semicolon : (current : Mode) (text : List ℕ) → token_read current (59 ∷ text) ≡ Ok semicolon_piece
 token_semicolon (Element shape depth stage) text = in_list_semicolon shape depth stage text
@@ -242,7 +242,7 @@ to_end_blank_fed : (text rest : List ℕ) → ends_in_return text ≡ false → 
 to_end_blank_fed [] rest h all = omega arith
 to_end_blank_fed (b ∷ text) rest h all =
     let first = all_space b text all in
-    step_blank b text (fed text rest) first.0 (to_end_blank_fed text rest (no_return_behind b text h) first.1) (line_end_fed b text rest h)
+    step_blank b text (fed text rest) first.0 (to_end_blank_fed text rest (no_return_after b text h) first.1) (line_end_fed b text rest h)
 
 -- ---- at the end of a text
 
@@ -309,9 +309,9 @@ all_from source least start (p ∷ pieces) le =
     (one_from least start (start + p.length) (place_of_byte source start) p.piece le) (all_from source least (start + p.length) pieces (omega (arith, le)))
 
 -- outside lists a line feed is no token, so the tokens after it begin after it
-behind_feed : (source : List ℕ) (start : ℕ) (text : List ℕ) (pieces : List Lexeme) (last : Mode) → IsMadeOf Code (10 ∷ text) pieces last [] → All (StartsFrom (start + 1)) (tokens_of source start pieces)
-behind_feed source start text [] last made = absurd (let e : [] ≡ 10 ∷ text = made.1 in cc)
-behind_feed source start text (p ∷ pieces) last made =
+after_feed : (source : List ℕ) (start : ℕ) (text : List ℕ) (pieces : List Lexeme) (last : Mode) → IsMadeOf Code (10 ∷ text) pieces last [] → All (StartsFrom (start + 1)) (tokens_of source start pieces)
+after_feed source start text [] last made = absurd (let e : [] ≡ 10 ∷ text = made.1 in cc)
+after_feed source start text (p ∷ pieces) last made =
     let is : IsSpaceRead (10 ∷ text) (Ok p) = subst (IsSpaceRead (10 ∷ text)) made.0 (space_piece Code 10 text refl (omega arith)) in
     let quiet : p.piece ≡ Token Break → ⊥ = λ e. (breaks Code (10 ∷ text) p.length (made.0 ∙ ap (λ (k : Piece). (let q : Lexeme = record { piece = k; length = p.length } in Ok q)) e)).0.1 in
     let w = lexeme_within Code (10 ∷ text) p made.0 in
@@ -320,7 +320,7 @@ behind_feed source start text (p ∷ pieces) last made =
 
 -- Line ends that are tokens, a `;` at this byte, and others after it; if `Clean` holds there are no
 -- such line ends. If a line feed is the first byte after the `;`, the others begin after it.
-pub record Seam (Clean : Type 0) (place : ℕ) (rest : List ℕ) (tokens : List CodeToken) : Type 0 where
+pub record Joint (Clean : Type 0) (place : ℕ) (rest : List ℕ) (tokens : List CodeToken) : Type 0 where
   pub ends : List CodeToken
   pub semicolon : CodeToken
   pub others : List CodeToken
@@ -330,9 +330,9 @@ pub record Seam (Clean : Type 0) (place : ℕ) (rest : List ℕ) (tokens : List 
   pub none : Clean → ends ≡ []
   pub later : (text : List ℕ) → rest ≡ 10 ∷ text → All (StartsFrom (place + 2)) others
 
-seam_here : (Clean : Type 0) (source : List ℕ) (start : ℕ) (current : Mode) (text : List ℕ) (pieces : List Lexeme) (last : Mode) → IsMadeOf current (59 ∷ text) pieces last [] → Seam Clean start text (tokens_of source start pieces)
-seam_here Clean source start current text [] last made = absurd (let e : [] ≡ 59 ∷ text = made.1 in cc)
-seam_here Clean source start current text (p ∷ pieces) last made =
+joint_here : (Clean : Type 0) (source : List ℕ) (start : ℕ) (current : Mode) (text : List ℕ) (pieces : List Lexeme) (last : Mode) → IsMadeOf current (59 ∷ text) pieces last [] → Joint Clean start text (tokens_of source start pieces)
+joint_here Clean source start current text [] last made = absurd (let e : [] ≡ 59 ∷ text = made.1 in cc)
+joint_here Clean source start current text (p ∷ pieces) last made =
     let e : Ok p ≡ Ok semicolon_piece = sym made.0 ∙ semicolon_there current text in
     let same : p ≡ semicolon_piece = cc in
     record {
@@ -346,13 +346,13 @@ seam_here Clean source start current text (p ∷ pieces) last made =
       later = λ more feed.
           let following : IsMadeOf Code text pieces last [] = subst (λ (q : Lexeme). IsMadeOf (mode_after current q.piece (take q.length (59 ∷ text))) (drop q.length (59 ∷ text)) pieces last []) same made.1 in
           let two : start + 1 + 1 ≡ start + 2 = omega arith in
-          subst (λ n. All (StartsFrom n) (tokens_of source (start + 1) pieces)) two (behind_feed source (start + 1) more pieces last (subst (λ t. IsMadeOf Code t pieces last []) feed following));
+          subst (λ n. All (StartsFrom n) (tokens_of source (start + 1) pieces)) two (after_feed source (start + 1) more pieces last (subst (λ t. IsMadeOf Code t pieces last []) feed following));
     }
 
-seam_more : (Clean : Type 0) (place : ℕ) (rest : List ℕ) (at : Place) (piece : Piece) (start end : ℕ) (tokens : List CodeToken) → IsSpacePiece piece → (Clean → piece ≡ Token Break → ⊥) → Seam Clean place rest tokens → Seam Clean place rest (token_of at piece start end ++ tokens)
-seam_more Clean place rest at Gap start end tokens h k s = s
-seam_more Clean place rest at LineEnd start end tokens h k s = s
-seam_more Clean place rest at (Token Break) start end tokens h k s =
+joint_more : (Clean : Type 0) (place : ℕ) (rest : List ℕ) (at : Place) (piece : Piece) (start end : ℕ) (tokens : List CodeToken) → IsSpacePiece piece → (Clean → piece ≡ Token Break → ⊥) → Joint Clean place rest tokens → Joint Clean place rest (token_of at piece start end ++ tokens)
+joint_more Clean place rest at Gap start end tokens h k s = s
+joint_more Clean place rest at LineEnd start end tokens h k s = s
+joint_more Clean place rest at (Token Break) start end tokens h k s =
     let token : CodeToken = record { kind = Break; start = start; end = end; at = at } in
     record {
       ends = token ∷ s.ends;
@@ -364,12 +364,12 @@ seam_more Clean place rest at (Token Break) start end tokens h k s =
       none = λ c. absurd (k c refl);
       later = s.later;
     }
-seam_more Clean place rest at piece start end tokens h k s = absurd h
+joint_more Clean place rest at piece start end tokens h k s = absurd h
 
 -- the first piece of blanks and line ends, a line feed and a `;`
-seam_piece : (current : Mode) (text rest : List ℕ) → ends_in_return text ≡ false → space_length text ≡ length text → IsSpaceRead (fed text (59 ∷ rest)) (piece_at current (fed text (59 ∷ rest)))
-seam_piece current [] rest h all = space_piece current 10 (59 ∷ rest) refl (omega arith)
-seam_piece current (b ∷ text) rest h all =
+joint_piece : (current : Mode) (text rest : List ℕ) → ends_in_return text ≡ false → space_length text ≡ length text → IsSpaceRead (fed text (59 ∷ rest)) (piece_at current (fed text (59 ∷ rest)))
+joint_piece current [] rest h all = space_piece current 10 (59 ∷ rest) refl (omega arith)
+joint_piece current (b ∷ text) rest h all =
     space_piece current b (fed text (59 ∷ rest)) (other_fed b text (59 ∷ rest) h ∙ (all_space b text all).0) (to_end_blank_fed (b ∷ text) (59 ∷ rest) h all)
 
 no_made : (text rest : List ℕ) → [] ≡ fed text rest → ⊥
@@ -384,25 +384,25 @@ no_end current text rest p h all there outside e =
     ap (λ n. drop n (fed text (59 ∷ rest))) (space_all_fed text (59 ∷ rest) h all) ∙ drop-append-add text (10 ∷ 59 ∷ rest) 1 in
     not_ending current rest outside (subst (IsEnding (line_ends current)) following (breaks current (fed text (59 ∷ rest)) p.length is).0.1)
 
-pub joining : (Clean : Type 0) (source : List ℕ) (start : ℕ) (current : Mode) (text rest : List ℕ) (pieces : List Lexeme) (last : Mode) → ends_in_return text ≡ false → space_length text ≡ length text → (Clean → in_list_now current ≡ false) → IsMadeOf current (fed text (59 ∷ rest)) pieces last [] → Seam Clean (start + length text + 1) rest (tokens_of source start pieces)
+pub joining : (Clean : Type 0) (source : List ℕ) (start : ℕ) (current : Mode) (text rest : List ℕ) (pieces : List Lexeme) (last : Mode) → ends_in_return text ≡ false → space_length text ≡ length text → (Clean → in_list_now current ≡ false) → IsMadeOf current (fed text (59 ∷ rest)) pieces last [] → Joint Clean (start + length text + 1) rest (tokens_of source start pieces)
 joining Clean source start current text rest [] last h all clean made = absurd (no_made text (59 ∷ rest) made.1)
 joining Clean source start current text rest (p ∷ pieces) last h all clean made =
-    let is : IsSpaceRead (fed text (59 ∷ rest)) (Ok p) = subst (IsSpaceRead (fed text (59 ∷ rest))) made.0 (seam_piece current text rest h all) in
+    let is : IsSpaceRead (fed text (59 ∷ rest)) (Ok p) = subst (IsSpaceRead (fed text (59 ∷ rest))) made.0 (joint_piece current text rest h all) in
     let long : space_length (fed text (59 ∷ rest)) ≡ length text + 1 = space_all_fed text (59 ∷ rest) h all in
     let most : p.length ≤ length text + 1 = omega (arith, is.1, long) in
     let following : Mode = mode_after current p.piece (take p.length (fed text (59 ∷ rest))) in
     let quiet : Clean → p.piece ≡ Token Break → ⊥ = λ c. no_end current text rest p h all made.0 (clean c) in
     let still : Clean → in_list_now following ≡ false = λ c. keeps_list current p.piece (take p.length (fed text (59 ∷ rest))) is.0 (quiet c) ∙ clean c in
-    seam_more Clean (start + length text + 1) rest (place_of_byte source start) p.piece start (start + p.length) (tokens_of source (start + p.length) pieces) is.0 quiet
+    joint_more Clean (start + length text + 1) rest (place_of_byte source start) p.piece start (start + p.length) (tokens_of source (start + p.length) pieces) is.0 quiet
     (elim (below_or (length text) p.length) [
       | inl past ↦
           let exact : p.length ≡ length text + 1 = omega (arith, past, most) in
           let there : drop p.length (fed text (59 ∷ rest)) ≡ 59 ∷ rest = ap (λ k. drop k (fed text (59 ∷ rest))) exact ∙ drop-append-add text (10 ∷ 59 ∷ rest) 1 in
           let here : start + p.length ≡ start + length text + 1 = omega (arith, exact) in
-          subst (λ n. Seam Clean n rest (tokens_of source (start + p.length) pieces)) here (seam_here Clean source (start + p.length) following rest pieces last (subst (λ t. IsMadeOf following t pieces last []) there made.1))
+          subst (λ n. Joint Clean n rest (tokens_of source (start + p.length) pieces)) here (joint_here Clean source (start + p.length) following rest pieces last (subst (λ t. IsMadeOf following t pieces last []) there made.1))
       | inr within ↦
           let here : start + p.length + length (drop p.length text) + 1 ≡ start + length text + 1 = omega (arith, within, length-drop p.length text) in
-          subst (λ n. Seam Clean n rest (tokens_of source (start + p.length) pieces)) here
+          subst (λ n. Joint Clean n rest (tokens_of source (start + p.length) pieces)) here
           (joining Clean source (start + p.length) following (drop p.length text) rest pieces last (no_return_drop p.length text h) (space_drop p.length text all) still
           (subst (λ t. IsMadeOf following t pieces last []) (drop-append-le p.length text (10 ∷ 59 ∷ rest) within) made.1))
     ])

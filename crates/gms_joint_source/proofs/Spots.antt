@@ -291,11 +291,11 @@ begun_leads spot current (Some keyword.Table) h l w = l
 begun_leads spot current (Some keyword.Other) h l w = l
 
 -- which tokens do not occur in a mode
-abbrev pub CanStand : Mode → Kind → Type 0
-CanStand (mode.Item s) kind.Label = ⊥
-CanStand (mode.Named s) kind.Word = ⊥
-CanStand (mode.Bare s) kind.Word = ⊥
-CanStand _ _ = Unit {0}
+abbrev pub CanOccur : Mode → Kind → Type 0
+CanOccur (mode.Item s) kind.Label = ⊥
+CanOccur (mode.Named s) kind.Word = ⊥
+CanOccur (mode.Bare s) kind.Word = ⊥
+CanOccur _ _ = Unit {0}
 
 key_leads : (m : Mode) (k : Option Keyword) (sort : Sort) → spot_of m ≡ out → Leads out (key_sort k) (begun_by k m)
 key_leads m None sort e = ap (has same same_is (out ∷ [])) e
@@ -324,10 +324,10 @@ stay_list (Some keyword.Other) = refl
 key_table : (m : Mode) (k : Option Keyword) → spot_of m ≡ out → Leads out (key_sort k) (begun_by k m)
 key_table m k e = key_leads m k word e
 
-word_leads : (m : Mode) (text : List ℕ) (k : Option Keyword) → k ≡ keyword_of text → CanStand m kind.Word → Leads (spot_of m) (key_sort k) (after_word m text)
+word_leads : (m : Mode) (text : List ℕ) (k : Option Keyword) → k ≡ keyword_of text → CanOccur m kind.Word → Leads (spot_of m) (key_sort k) (after_word m text)
 word_leads m text k e can = subst (λ (j : Option Keyword). Leads (spot_of m) (key_sort j) (after_word m text)) (sym e) (by m can)
   where
-    by : (m : Mode) → CanStand m kind.Word → Leads (spot_of m) (key_sort (keyword_of text)) (after_word m text)
+    by : (m : Mode) → CanOccur m kind.Word → Leads (spot_of m) (key_sort (keyword_of text)) (after_word m text)
     by mode.Code can = key_table mode.Code (keyword_of text) refl
     by (mode.Item s) can = begun_leads item (mode.Named s) (keyword_of text) refl refl refl
     by (mode.Named s) can = absurd can
@@ -356,7 +356,7 @@ text_sort text = by (nat_lt 65 (length text))
     by true = refl
     by false = refl
 
-label_leads : (m : Mode) (text : List ℕ) → CanStand m kind.Label → Leads (spot_of m) label (after_token m kind.Label text)
+label_leads : (m : Mode) (text : List ℕ) → CanOccur m kind.Label → Leads (spot_of m) label (after_token m kind.Label text)
 label_leads (mode.Item s) text can = absurd can
 label_leads (mode.Element s depth After) text can = to_list list label (after_element s depth) refl (element_in_list s depth)
 label_leads (mode.Element s depth Spaced) text can = to_list list label (after_element s depth) refl (element_in_list s depth)
@@ -386,7 +386,7 @@ line_leads _ text = refl
 
 -- a token leads from the position of a mode to that of the mode after it; `text` is the token in
 -- the code, and `bytes` in the source
-pub token_leads : (m : Mode) (k : Kind) (text bytes : List ℕ) → CanStand m k → (k ≡ kind.Word → text ≡ bytes) → Leads (spot_of m) (sort_of (terminal_of k bytes)) (after_token m k text)
+pub token_leads : (m : Mode) (k : Kind) (text bytes : List ℕ) → CanOccur m k → (k ≡ kind.Word → text ≡ bytes) → Leads (spot_of m) (sort_of (terminal_of k bytes)) (after_token m k text)
 token_leads m kind.Word text bytes can same =
     subst (λ (s : Sort). Leads (spot_of m) s (after_word m text)) (sym (ap (λ t. sort_of (terminal_of_word t)) (sym (same refl)) ∙ word_sort text)) (word_leads m text (keyword_of text) refl can)
 token_leads m kind.Label text bytes can same = label_leads m text can
@@ -406,8 +406,8 @@ IsMild bare = Unit {0}
 IsMild _ = ⊥
 
 -- a position means a mode: it is its position, or the mode is that after a descriptive text
-abbrev pub StandsFor : Spot → Mode → Type 0
-StandsFor spot m = (spot ≡ spot_of m) ⊎ (IsMild spot × (spot_of m ≡ rest))
+abbrev pub OccursFor : Spot → Mode → Type 0
+OccursFor spot m = (spot ≡ spot_of m) ⊎ (IsMild spot × (spot_of m ≡ rest))
 
 mild_more : (spot : Spot) (sort : Sort) → IsMild spot → within same same_is (step rest sort) (step spot sort) ≡ true
 mild_more named declarer h = refl
@@ -417,34 +417,34 @@ mild_more bare _ h = refl
 mild_more _ _ h = absurd h
 
 -- what a token leads to from a place that stands for a mode
-pub stands_leads : (spot : Spot) (m following : Mode) (sort : Sort) → StandsFor spot m → Leads (spot_of m) sort following → Leads spot sort following
-stands_leads spot m following sort (inl e) l = subst (λ (s : Spot). Leads s sort following) (sym e) l
-stands_leads spot m following sort (inr e) l =
+pub occurs_leads : (spot : Spot) (m following : Mode) (sort : Sort) → OccursFor spot m → Leads (spot_of m) sort following → Leads spot sort following
+occurs_leads spot m following sort (inl e) l = subst (λ (s : Spot). Leads s sort following) (sym e) l
+occurs_leads spot m following sort (inr e) l =
     within_has same same_is (step rest sort) (step spot sort) (spot_of following) (mild_more spot sort e.0) (subst (λ (s : Spot). Leads s sort following) e.1 l)
 
 -- what is no token leaves it
-pub stands_gap : (spot : Spot) (m : Mode) → StandsFor spot m → StandsFor spot (after_gap m)
-stands_gap spot (mode.Element s depth After) h = h
-stands_gap spot (mode.Element s depth Fresh) h = h
-stands_gap spot (mode.Element s depth Expected) h = h
-stands_gap spot (mode.Element s depth Spaced) h = h
-stands_gap spot mode.Code h = h
-stands_gap spot _ h = h
+pub occurs_gap : (spot : Spot) (m : Mode) → OccursFor spot m → OccursFor spot (after_gap m)
+occurs_gap spot (mode.Element s depth After) h = h
+occurs_gap spot (mode.Element s depth Fresh) h = h
+occurs_gap spot (mode.Element s depth Expected) h = h
+occurs_gap spot (mode.Element s depth Spaced) h = h
+occurs_gap spot mode.Code h = h
+occurs_gap spot _ h = h
 
-pub stands_line : (spot : Spot) (m : Mode) → StandsFor spot m → StandsFor spot (after_line m)
-stands_line spot mode.Code h = h
-stands_line spot _ h = h
+pub occurs_line : (spot : Spot) (m : Mode) → OccursFor spot m → OccursFor spot (after_line m)
+occurs_line spot mode.Code h = h
+occurs_line spot _ h = h
 
-pub stands_remark : (spot : Spot) (m : Mode) → StandsFor spot m → StandsFor spot (after_remark m)
-stands_remark spot (mode.Named s) (inl e) = inr (subst IsMild (sym e) tt, refl)
-stands_remark spot (mode.Named s) (inr e) = absurd (let z : ◌≡◌ {A = Spot} named rest = e.1 in cc)
-stands_remark spot (mode.Bare s) (inl e) = inr (subst IsMild (sym e) tt, refl)
-stands_remark spot (mode.Bare s) (inr e) = absurd (let z : ◌≡◌ {A = Spot} bare rest = e.1 in cc)
-stands_remark spot (mode.Element s depth stage) h = h
-stands_remark spot mode.Code h = h
-stands_remark spot _ h = h
+pub occurs_remark : (spot : Spot) (m : Mode) → OccursFor spot m → OccursFor spot (after_remark m)
+occurs_remark spot (mode.Named s) (inl e) = inr (subst IsMild (sym e) tt, refl)
+occurs_remark spot (mode.Named s) (inr e) = absurd (let z : ◌≡◌ {A = Spot} named rest = e.1 in cc)
+occurs_remark spot (mode.Bare s) (inl e) = inr (subst IsMild (sym e) tt, refl)
+occurs_remark spot (mode.Bare s) (inr e) = absurd (let z : ◌≡◌ {A = Spot} bare rest = e.1 in cc)
+occurs_remark spot (mode.Element s depth stage) h = h
+occurs_remark spot mode.Code h = h
+occurs_remark spot _ h = h
 
 -- a place that stands for a list is that of a list
-pub list_stands : (spot : Spot) (m : Mode) → StandsFor spot m → spot_of m ≡ list → spot ≡ list
-list_stands spot m (inl e) h = e ∙ h
-list_stands spot m (inr e) h = absurd (let z : ◌≡◌ {A = Spot} rest list = sym e.1 ∙ h in cc)
+pub list_occurs : (spot : Spot) (m : Mode) → OccursFor spot m → spot_of m ≡ list → spot ≡ list
+list_occurs spot m (inl e) h = e ∙ h
+list_occurs spot m (inr e) h = absurd (let z : ◌≡◌ {A = Spot} rest list = sym e.1 ∙ h in cc)

@@ -15,7 +15,7 @@ use Rattle.gms_labels.specs.Labels.{entered}
 use Rattle.gms_grammar.specs.declared.terminal.Terminal.{Terminal}
 use Rattle.gms_grammar.specs.declared.terminal.Terminal.TheVariants as terminal
 use Rattle.gms_grammar.specs.Terminals.{is}
-use Rattle.gms_grammar.proofs.Rules.{walk_append, all_keep}
+use Rattle.gms_grammar.proofs.Rules.{read_state_append, all_keep}
 use Rattle.gms_table.specs.Words.{Word, words_of}
 use Rattle.gms_table.specs.TableEntries.{table_of, label_texts}
 use Rattle.gms_table.specs.WordLabels.{all_entered, IsPrefix}
@@ -103,11 +103,11 @@ module _ (saved joint : List ℕ) where
       (ap (all_entered read_state.labels) (labels_alike read_state token ahead a h))
 
   -- tokens leave the same in both
-  pub walk_alike : (read_state : ReaderState) (tokens : List KindedToken) (ahead : Terminal) → AreAlike read_state.before → AreAlike tokens → reader_after_all joint read_state tokens ahead ≡ reader_after_all saved read_state tokens ahead
-  walk_alike read_state [] ahead a h = refl
-  walk_alike read_state (token ∷ tokens) ahead a h =
+  pub read_state_alike : (read_state : ReaderState) (tokens : List KindedToken) (ahead : Terminal) → AreAlike read_state.before → AreAlike tokens → reader_after_all joint read_state tokens ahead ≡ reader_after_all saved read_state tokens ahead
+  read_state_alike read_state [] ahead a h = refl
+  read_state_alike read_state (token ∷ tokens) ahead a h =
       ap (λ (w : ReaderState). reader_after_all joint w tokens ahead) (after_alike read_state token (kind_ahead tokens ahead) a h.0)
-      ∙ walk_alike (reader_after saved read_state token (kind_ahead tokens ahead)) tokens ahead (h.0, a) h.1
+      ∙ read_state_alike (reader_after saved read_state token (kind_ahead tokens ahead)) tokens ahead (h.0, a) h.1
 
 -- ---- the token ahead
 
@@ -127,10 +127,10 @@ module _ (source : List ℕ) where
       ap (λ (ls : List (List ℕ)). (let r : ReaderState = record (reader_after source read_state token terminal.End) { labels = all_entered read_state.labels ls } in r)) (labels_ahead read_state token ahead h k)
 
   -- tokens leave the same before the end and before a token that is no `*` and no line of a table
-  pub walk_ahead : (read_state : ReaderState) (tokens : List KindedToken) (ahead : Terminal) → is terminal.Star ahead ≡ false → is terminal.TableLine ahead ≡ false → reader_after_all source read_state tokens ahead ≡ reader_after_all source read_state tokens terminal.End
-  walk_ahead read_state [] ahead h k = refl
-  walk_ahead read_state (token ∷ []) ahead h k = after_ahead read_state token ahead h k
-  walk_ahead read_state (token ∷ next ∷ tokens) ahead h k = walk_ahead (reader_after source read_state token next.0) (next ∷ tokens) ahead h k
+  pub read_state_ahead : (read_state : ReaderState) (tokens : List KindedToken) (ahead : Terminal) → is terminal.Star ahead ≡ false → is terminal.TableLine ahead ≡ false → reader_after_all source read_state tokens ahead ≡ reader_after_all source read_state tokens terminal.End
+  read_state_ahead read_state [] ahead h k = refl
+  read_state_ahead read_state (token ∷ []) ahead h k = after_ahead read_state token ahead h k
+  read_state_ahead read_state (token ∷ next ∷ tokens) ahead h k = read_state_ahead (reader_after source read_state token next.0) (next ∷ tokens) ahead h k
 
   -- ---- names and labels are only added
 
@@ -161,10 +161,10 @@ own_alike source more (token ∷ own) rest all = (text_same source more token (A
 pub record Parted {T : Type 0} (prefix following whole : List T) (x : T) : Type 0 where
   pub middle : List T
   pub whole_is : whole ≡ prefix ++ middle
-  pub behind_is : following ≡ middle ++ x ∷ []
+  pub after_is : following ≡ middle ++ x ∷ []
 
 parted : {T : Type 0} (prefix following whole : List T) (y x : T) (others : List T) → following ≡ y ∷ others → prefix ++ following ≡ whole ++ x ∷ [] → Parted prefix following whole x
-parted [] following whole y x others some e = record { middle = whole; whole_is = refl; behind_is = e }
+parted [] following whole y x others some e = record { middle = whole; whole_is = refl; after_is = e }
 parted (a ∷ prefix) following [] y x others some e =
     let none : prefix ++ following ≡ [] = cc in
     absurd (nothing prefix following y others some none)
@@ -176,7 +176,7 @@ parted (a ∷ prefix) following (b ∷ whole) y x others some e =
     let same : a ≡ b = cc in
     let rest : prefix ++ following ≡ whole ++ x ∷ [] = cc in
     let p = parted prefix following whole y x others some rest in
-    record { middle = p.middle; whole_is = ap₂ (λ c w. c ∷ w) (sym same) p.whole_is; behind_is = p.behind_is }
+    record { middle = p.middle; whole_is = ap₂ (λ c w. c ∷ w) (sym same) p.whole_is; after_is = p.after_is }
 
 -- a token that is no `*` and no line of a table
 abbrev IsQuiet : Terminal → Type 0
@@ -186,23 +186,23 @@ told : (kind other : Kind) (text : List ℕ) → kind ≡ other → IsQuiet (ter
 told kind other text e h = (ap (λ (c : Kind). is terminal.Star (terminal_of c text)) e ∙ h.0, ap (λ (c : Kind). is terminal.TableLine (terminal_of c text)) e ∙ h.1)
 
 -- the first token after those of a saved source
-pub record FirstBehind (source : List ℕ) (following : List Token) : Type 0 where
+pub record FirstAfter (source : List ℕ) (following : List Token) : Type 0 where
   pub first : Token
   pub others : List Token
   pub is : following ≡ first ∷ others
   pub quiet : IsQuiet (terminal_of first.kind (token_text source first))
 
-first_behind : (source : List ℕ) (ends : List Token) (semicolon : Token) (others : List Token) → All (λ (token : Token). token.kind ≡ token_kind.Break) ends → semicolon.kind ≡ token_kind.Symbol sym.Semicolon → FirstBehind source (ends ++ semicolon ∷ others)
-first_behind source [] semicolon others all e =
+first_after : (source : List ℕ) (ends : List Token) (semicolon : Token) (others : List Token) → All (λ (token : Token). token.kind ≡ token_kind.Break) ends → semicolon.kind ≡ token_kind.Symbol sym.Semicolon → FirstAfter source (ends ++ semicolon ∷ others)
+first_after source [] semicolon others all e =
     record { first = semicolon; others = others; is = refl; quiet = told semicolon.kind (token_kind.Symbol sym.Semicolon) (token_text source semicolon) e (refl, refl) }
-first_behind source (end ∷ ends) semicolon others all e = record {
+first_after source (end ∷ ends) semicolon others all e = record {
   first = end;
   others = ends ++ semicolon ∷ others;
   is = refl;
   quiet = told end.kind token_kind.Break (token_text source end) (All-head (λ (token : Token). token.kind ≡ token_kind.Break) end ends all) (refl, refl);
 }
 
-quiet_ahead : (source : List ℕ) (following : List Token) (f : FirstBehind source following) (middle : List KindedToken) (x : KindedToken) → kinded_tokens source following ≡ middle ++ x ∷ [] → IsQuiet (kind_ahead middle terminal.End)
+quiet_ahead : (source : List ℕ) (following : List Token) (f : FirstAfter source following) (middle : List KindedToken) (x : KindedToken) → kinded_tokens source following ≡ middle ++ x ∷ [] → IsQuiet (kind_ahead middle terminal.End)
 quiet_ahead source following f [] x e = (refl, refl)
 quiet_ahead source following f (y ∷ middle) x e =
     let see : KindedToken = (terminal_of f.first.kind (token_text source f.first), f.first) in
@@ -212,14 +212,14 @@ quiet_ahead source following f (y ∷ middle) x e =
 
 -- The tokens of a joint source in the grammar's view: those of the saved source, and those after
 -- them.
-pub record FrontSeen (saved file : List ℕ) (first whole : List KindedToken) : Type 0 where
+pub record PrefixSeen (saved file : List ℕ) (first whole : List KindedToken) : Type 0 where
   pub middle : List KindedToken
   pub whole_is : whole ≡ first ++ middle
   pub quiet : IsQuiet (kind_ahead middle terminal.End)
   pub alike : AreAlike saved (joint_source saved file) first
 
-pub front_seen : (saved file : List ℕ) (tokens joint : List Token) (first whole : List KindedToken) (end last : Token) → IsTokens saved tokens → HaveJointPrefix saved tokens joint → kinded_tokens saved tokens ≡ first ++ (terminal.End, end) ∷ [] → kinded_tokens (joint_source saved file) joint ≡ whole ++ (terminal.End, last) ∷ [] → FrontSeen saved file first whole
-front_seen saved file tokens joint first whole end last is_tokens h first_are whole_are =
+pub prefix_seen : (saved file : List ℕ) (tokens joint : List Token) (first whole : List KindedToken) (end last : Token) → IsTokens saved tokens → HaveJointPrefix saved tokens joint → kinded_tokens saved tokens ≡ first ++ (terminal.End, end) ∷ [] → kinded_tokens (joint_source saved file) joint ≡ whole ++ (terminal.End, last) ∷ [] → PrefixSeen saved file first whole
+prefix_seen saved file tokens joint first whole end last is_tokens h first_are whole_are =
     let source : List ℕ = joint_source saved file in
     let more : List ℕ = 10 ∷ 59 ∷ 10 ∷ file in
     let see : List ℕ → Token → KindedToken = λ text token. (terminal_of token.kind (token_text text token), token) in
@@ -228,7 +228,7 @@ front_seen saved file tokens joint first whole end last is_tokens h first_are wh
     last_same (kinded_tokens saved h.own) first (terminal.End, end_token saved) (terminal.End, end)
     (sym (map-append (see saved) h.own (end_token saved ∷ [])) ∙ ap (kinded_tokens saved) (sym h.tokens_are) ∙ first_are) in
     let following : List Token = h.ends ++ h.semicolon ∷ h.others in
-    let f = first_behind source h.ends h.semicolon h.others h.are_ends h.is_semicolon in
+    let f = first_after source h.ends h.semicolon h.others h.are_ends h.is_semicolon in
     let all : first ++ kinded_tokens source following ≡ whole ++ (terminal.End, last) ∷ [] =
     ap (λ ts. ts ++ kinded_tokens source following) (sym (own_seen saved more h.own (end_token saved ∷ []) placed ∙ own))
     ∙ sym (map-append (see source) h.own following)
@@ -238,11 +238,11 @@ front_seen saved file tokens joint first whole end last is_tokens h first_are wh
     record {
       middle = p.middle;
       whole_is = p.whole_is;
-      quiet = quiet_ahead source following f p.middle (terminal.End, last) p.behind_is;
+      quiet = quiet_ahead source following f p.middle (terminal.End, last) p.after_is;
       alike = subst (AreAlike saved source) own (own_alike saved more h.own (end_token saved ∷ []) placed);
     }
 
-module _ (saved file : List ℕ) (first whole : List KindedToken) (f : FrontSeen saved file first whole) where
+module _ (saved file : List ℕ) (first whole : List KindedToken) (f : PrefixSeen saved file first whole) where
   abbrev Joint : List ℕ
   Joint = joint_source saved file
 
@@ -251,21 +251,21 @@ module _ (saved file : List ℕ) (first whole : List KindedToken) (f : FrontSeen
   between = reader_after_all Joint start first (kind_ahead f.middle terminal.End)
 
   -- is what they leave in the saved source
-  pub front_walk : between ≡ reader_after_all saved start first terminal.End
-  front_walk =
-      walk_alike saved Joint start first (kind_ahead f.middle terminal.End) tt f.alike
-      ∙ walk_ahead saved start first (kind_ahead f.middle terminal.End) f.quiet.0 f.quiet.1
+  pub prefix_read_state : between ≡ reader_after_all saved start first terminal.End
+  prefix_read_state =
+      read_state_alike saved Joint start first (kind_ahead f.middle terminal.End) tt f.alike
+      ∙ read_state_ahead saved start first (kind_ahead f.middle terminal.End) f.quiet.0 f.quiet.1
 
-  last_walk : reader_after_all Joint start whole terminal.End ≡ reader_after_all Joint between f.middle terminal.End
-  last_walk = ap (λ (ts : List KindedToken). reader_after_all Joint start ts terminal.End) f.whole_is ∙ walk_append (reader_after Joint) start first f.middle terminal.End
+  last_read_state : reader_after_all Joint start whole terminal.End ≡ reader_after_all Joint between f.middle terminal.End
+  last_read_state = ap (λ (ts : List KindedToken). reader_after_all Joint start ts terminal.End) f.whole_is ∙ read_state_append (reader_after Joint) start first f.middle terminal.End
 
   -- the names and the labels of a joint source begin with those of the saved one
-  pub front_names : IsPrefix (reader_after_all saved start first terminal.End).names (reader_after_all Joint start whole terminal.End).names
-  front_names =
-      subst (λ (w : ReaderState). IsPrefix (reader_after_all saved start first terminal.End).names w.names) (sym last_walk)
-      (subst (λ (w : ReaderState). IsPrefix w.names (reader_after_all Joint between f.middle terminal.End).names) front_walk (names_go_on Joint between f.middle terminal.End))
+  pub prefix_names : IsPrefix (reader_after_all saved start first terminal.End).names (reader_after_all Joint start whole terminal.End).names
+  prefix_names =
+      subst (λ (w : ReaderState). IsPrefix (reader_after_all saved start first terminal.End).names w.names) (sym last_read_state)
+      (subst (λ (w : ReaderState). IsPrefix w.names (reader_after_all Joint between f.middle terminal.End).names) prefix_read_state (names_go_on Joint between f.middle terminal.End))
 
-  pub front_labels : IsPrefix (reader_after_all saved start first terminal.End).labels (reader_after_all Joint start whole terminal.End).labels
-  front_labels =
-      subst (λ (w : ReaderState). IsPrefix (reader_after_all saved start first terminal.End).labels w.labels) (sym last_walk)
-      (subst (λ (w : ReaderState). IsPrefix w.labels (reader_after_all Joint between f.middle terminal.End).labels) front_walk (labels_go_on Joint between f.middle terminal.End))
+  pub prefix_labels : IsPrefix (reader_after_all saved start first terminal.End).labels (reader_after_all Joint start whole terminal.End).labels
+  prefix_labels =
+      subst (λ (w : ReaderState). IsPrefix (reader_after_all saved start first terminal.End).labels w.labels) (sym last_read_state)
+      (subst (λ (w : ReaderState). IsPrefix w.labels (reader_after_all Joint between f.middle terminal.End).labels) prefix_read_state (labels_go_on Joint between f.middle terminal.End))

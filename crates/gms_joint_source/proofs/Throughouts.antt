@@ -36,15 +36,15 @@ NoMore n tree = Unit {0}
 -- The point of a reader among all tokens of a source: after the tokens that it has traversed, and
 -- before these tokens, which lead to these names and labels at the end, and have the same bytes in
 -- another source.
-pub record Stands (first second : List ℕ) (names labels : List (List ℕ)) (whole : List KindedToken) (w : ReaderState) (tokens : List KindedToken) : Type 0 where
+pub record Occurs (first second : List ℕ) (names labels : List (List ℕ)) (whole : List KindedToken) (w : ReaderState) (tokens : List KindedToken) : Type 0 where
   pub names_are : names ≡ (reader_after_all first w tokens End).names
   pub labels_are : labels ≡ (reader_after_all first w tokens End).labels
   pub parts : whole ≡ reverse w.before ++ tokens
   pub alike : AreAlike first second tokens
 
 -- after the next token
-pub stands_on : (first second : List ℕ) (names labels : List (List ℕ)) (whole : List KindedToken) (w : ReaderState) (t : KindedToken) (rest : List KindedToken) → Stands first second names labels whole w (t ∷ rest) → Stands first second names labels whole (reader_after first w t (kind_of rest)) rest
-stands_on first second names labels whole w t rest s = record {
+pub occurs_on : (first second : List ℕ) (names labels : List (List ℕ)) (whole : List KindedToken) (w : ReaderState) (t : KindedToken) (rest : List KindedToken) → Occurs first second names labels whole w (t ∷ rest) → Occurs first second names labels whole (reader_after first w t (kind_of rest)) rest
+occurs_on first second names labels whole w t rest s = record {
   names_are = s.names_are;
   labels_are = s.labels_are;
   parts = s.parts ∙ sym (ap (λ (u : List KindedToken). u ++ rest) (reverse-append (t ∷ []) w.before) ∙ append_assoc (reverse w.before) (t ∷ []) rest);
@@ -83,7 +83,7 @@ module _ {S : Type 0} (each : (S → Bool) → Bool) (each_is : (f : S → Bool)
 
   module _ (first second : List ℕ) (names labels : List (List ℕ)) (whole : List KindedToken) (At : S → ReaderState → Type 0) (L : (Terminal → Bool) → KindedToken → Type 0) (M : Nonterminal → Derivation → Type 0) where
     abbrev pub Here : ReaderState → List KindedToken → Type 0
-    Here w tokens = Stands first second names labels whole w tokens
+    Here w tokens = Occurs first second names labels whole w tokens
 
     -- a reader is after a part
     pub record Passed (ok : S → Bool) (p : GamsPart) (tree : Derivation) (rest : List KindedToken) : Type 0 where
@@ -91,7 +91,7 @@ module _ {S : Type 0} (each : (S → Bool) → Bool) (each_is : (f : S → Bool)
       pub read_state : ReaderState
       pub is_ok : ok state ≡ true
       pub at : At state read_state
-      pub stands : Here read_state rest
+      pub occurs : Here read_state rest
       pub all : Throughout L M p tree
 
     -- a token leads from state to state
@@ -118,7 +118,7 @@ module _ {S : Type 0} (each : (S → Bool) → Bool) (each_is : (f : S → Bool)
         read_state = reader_after first w t (kind_of rest);
         is_ok = also test (λ kind. ok (next s kind)) (right_and (allowed test s) _ k) t.0 h;
         at = step s w t (kind_of rest) a;
-        stands = stands_on first second names labels whole w t rest e;
+        occurs = occurs_on first second names labels whole w t rest e;
         all = of_tokens test s w t rest ((and_parts (allowed test s) _ k).0) h a e;
       }
       passed (entered {n = n} {tokens = tokens} {rest = rest} {tree = tree} r) ok s w k a e =
@@ -132,25 +132,25 @@ module _ {S : Type 0} (each : (S → Bool) → Bool) (each_is : (f : S → Bool)
             read_state = inner.read_state;
             is_ok = follows_has (exit n s) ok (right_and (entry n s) _ k) inner.state inner.is_ok;
             at = inner.at;
-            stands = inner.stands;
+            occurs = inner.occurs;
             all = (inner.all, of_nodes n tree s w tokens rest enters a e (entered r));
           }
       passed (both {q = q} r x) ok s w k a e =
           let one = passed r (λ t. passes q ok t) s w k a e in
-          let other = passed x ok one.state one.read_state one.is_ok one.at one.stands in
-          record { state = other.state; read_state = other.read_state; is_ok = other.is_ok; at = other.at; stands = other.stands; all = (one.all, other.all) }
+          let other = passed x ok one.state one.read_state one.is_ok one.at one.occurs in
+          record { state = other.state; read_state = other.read_state; is_ok = other.is_ok; at = other.at; occurs = other.occurs; all = (one.all, other.all) }
       passed (in_left {p = p} l r) ok s w k a e =
           let one = passed r ok s w ((and_parts (passes p ok s) _ k).0) a e in
-          record { state = one.state; read_state = one.read_state; is_ok = one.is_ok; at = one.at; stands = one.stands; all = one.all }
+          record { state = one.state; read_state = one.read_state; is_ok = one.is_ok; at = one.at; occurs = one.occurs; all = one.all }
       passed (in_right {p = p} l m r) ok s w k a e =
           let one = passed r ok s w (right_and (passes p ok s) _ k) a e in
-          record { state = one.state; read_state = one.read_state; is_ok = one.is_ok; at = one.at; stands = one.stands; all = one.all }
-      passed (left_out l) ok s w k a e = record { state = s; read_state = w; is_ok = (and_parts (ok s) _ k).0; at = a; stands = e; all = tt }
+          record { state = one.state; read_state = one.read_state; is_ok = one.is_ok; at = one.at; occurs = one.occurs; all = one.all }
+      passed (left_out l) ok s w k a e = record { state = s; read_state = w; is_ok = (and_parts (ok s) _ k).0; at = a; occurs = e; all = tt }
       passed (there l r) ok s w k a e =
           let one = passed r ok s w (right_and (ok s) _ k) a e in
-          record { state = one.state; read_state = one.read_state; is_ok = one.is_ok; at = one.at; stands = one.stands; all = one.all }
-      passed (no_more l) ok s w k a e = record { state = s; read_state = w; is_ok = (and_parts (ok s) _ k).0; at = a; stands = e; all = tt }
+          record { state = one.state; read_state = one.read_state; is_ok = one.is_ok; at = one.at; occurs = one.occurs; all = one.all }
+      passed (no_more l) ok s w k a e = record { state = s; read_state = w; is_ok = (and_parts (ok s) _ k).0; at = a; occurs = e; all = tt }
       passed (again {p = p} l r x) ok s w k a e =
           let one = passed r ok s w (follows_has ok (λ t. passes p ok t) (right_and (ok s) _ k) s ((and_parts (ok s) _ k).0)) a e in
-          let other = passed x ok one.state one.read_state (and_both (ok one.state) _ one.is_ok (right_and (ok s) _ k)) one.at one.stands in
-          record { state = other.state; read_state = other.read_state; is_ok = other.is_ok; at = other.at; stands = other.stands; all = (one.all, other.all) }
+          let other = passed x ok one.state one.read_state (and_both (ok one.state) _ one.is_ok (right_and (ok s) _ k)) one.at one.occurs in
+          record { state = other.state; read_state = other.read_state; is_ok = other.is_ok; at = other.at; occurs = other.occurs; all = (one.all, other.all) }

@@ -169,7 +169,7 @@ module _ {F : Type 0} (v : F → Number) (limit : ℕ) (run : Execution F) (done
   simple-sets indices one =
       let before = done.of_program.before in
       let known = known_after v run.world.program done.accepted.0 (sound before) in
-      once-all (IsSimple run.before) (sets_among indices) (subst (All (IsSimple run.before)) (same-sets indices) (All-weaker (λ (set : ℕ). is_index_set known.state set ≡ true) (IsSimple run.before) (λ set is. index-simple v limit run.world before done.of_program.outer set run.before done.of_program.stands is lasts) (index_sets indices) one))
+      once-all (IsSimple run.before) (sets_among indices) (subst (All (IsSimple run.before)) (same-sets indices) (All-weaker (λ (set : ℕ). is_index_set known.state set ≡ true) (IsSimple run.before) (λ set is. index-simple v limit run.world before done.of_program.outer set run.before done.of_program.occurs is lasts) (index_sets indices) one))
 
   pub settle : Settled
   settle =
@@ -177,7 +177,7 @@ module _ {F : Type 0} (v : F → Number) (limit : ℕ) (run : Execution F) (done
       let indices = index_list run.target.indices in
       let before = done.of_program.before in
       let known = known_after v run.world.program done.accepted.0 (sound before) in
-      let inner = program-inner v run.world.program done.accepted.0 before done.of_program.outer statement done.of_program.depth done.accepted.1 done.of_program.stands done.of_program.inside in
+      let inner = program-inner v run.world.program done.accepted.0 before done.of_program.outer statement done.of_program.depth done.accepted.1 done.of_program.occurs done.of_program.inside in
       let whole = subst (AreClean known) (uses-act statement known.state inner.0 ∙ ap (λ (act : Act F). act_uses act known.state statement.at inner.0) done.act ∙ uses-Assign known.state statement.at inner.0 run.target run.condition run.right_at run.right) inner.1 in
       let used = sound-use known (assigning run.target.name run.target.suffix indices) whole.0 in
       let e = given (given_by v limit run.before statement.at run.binding (target_of run.target) (option_map tree_of run.condition) run.right_at (tree_of run.right)) (λ all. Ok (after_given run.target.suffix run.target.name all run.before)) run.after after-is in
@@ -194,7 +194,7 @@ module _ {F : Type 0} (v : F → Number) (limit : ℕ) (run : Execution F) (done
         simple = All-filter (λ (set : ℕ). is_none (label_of run.binding set)) (IsSimple run.before) (distinct_numbers (sets_among indices)) (simple-sets indices used.2.sets);
         few = omega (arith, count, most, fewer, least);
         short = λ element. short-labels element count;
-        may = ap (λ (kind : SymbolKind). may_be_assigned kind run.target.suffix) (kind-now v limit run.world run.before lasts before done.of_program.outer done.of_program.stands run.target.name used.0) ∙ used.1;
+        may = ap (λ (kind : SymbolKind). may_be_assigned kind run.target.suffix) (kind-now v limit run.world run.before lasts before done.of_program.outer done.of_program.occurs run.target.name used.0) ∙ used.1;
       }
     where
       short-labels : (element : List ℕ) → checking.index_count (index_list run.target.indices) ≤ 10 → length (labels v limit run.before (element_binding run element) (left_indices run)) ≤ 10

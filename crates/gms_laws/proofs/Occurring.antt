@@ -33,9 +33,9 @@ use Rattle.gms_check.specs.LeftSides.{IsNestedIn}
 use Rattle.gms_check.specs.Loaded.{sound}
 use Rattle.gms_check.specs.Names.{is_variable}
 use Rattle.gms_check.specs.Past.{Known}
-use Rattle.gms_check.specs.Contexts.{as_condition, as_denied, as_guarded, as_inner, as_members, as_number, as_part, as_side, may_stand}
+use Rattle.gms_check.specs.Contexts.{as_condition, as_denied, as_guarded, as_inner, as_members, as_number, as_part, as_side, may_occur}
 use Rattle.gms_check.specs.InnerStatements.{act_uses}
-use Rattle.gms_check.specs.StatementUses.{index_list, left_uses, right_standing, show_uses, statement_uses, with_left}
+use Rattle.gms_check.specs.StatementUses.{index_list, left_uses, right_context, show_uses, statement_uses, with_left}
 use Rattle.gms_check.specs.Uses.{Uses, amount_uses, condition_uses, control_uses, part_uses, place_by_mark, reading, sets_of_control, shift_uses, steps as step_uses, uses}
 use Rattle.gms_check.proofs.ActUses.{uses-Abort, uses-Assign, uses-Define, uses-Loop, uses-act}
 use Rattle.gms_check.proofs.LeftAmounts.{program-inner}
@@ -293,18 +293,18 @@ module _ {F : Type 0} (known : Known F) where
     of-act act is =
         subst (AreClean known) (uses-act statement known.state controlled ∙ ap (λ (act : Act F). act_uses act known.state statement.at controlled) is) clean
 
-    clean-right_side : (target : Target F) (condition : Option (Expr F)) (right_at : Place) (right : Expr F) → statement.act ≡ Assign target condition right_at (Value right) → (at : Context) → right_standing known.state target.name ≡ at → IsCleanAt at (tree_of right)
+    clean-right_side : (target : Target F) (condition : Option (Expr F)) (right_at : Place) (right : Expr F) → statement.act ≡ Assign target condition right_at (Value right) → (at : Context) → right_context known.state target.name ≡ at → IsCleanAt at (tree_of right)
     clean-right_side target condition right_at right is at role =
         let around = with_left controlled target.indices in
         let whole = subst (AreClean known) (uses-Assign known.state statement.at controlled target condition right_at right) (of-act _ is) in
-        let right_clean = clean-right known (left_uses statement.at around target.indices condition) (uses (right_standing known.state target.name) right_at around (tree_of right)) whole.1 in
+        let right_clean = clean-right known (left_uses statement.at around target.indices condition) (uses (right_context known.state target.name) right_at around (tree_of right)) whole.1 in
         record { around = right_at; controlled = around; clean = subst (λ (s : Context). AreClean known (uses s right_at around (tree_of right))) role right_clean }
 
     clean-expression : {role : Role} {root : Tree F} → IsExpressionOf known.state statement.act role root → IsCleanAt (in_role role) root
     clean-expression (amount_in_assignment target condition right_at right is among) =
         let around = with_left controlled target.indices in
         let whole = subst (AreClean known) (uses-Assign known.state statement.at controlled target condition right_at right) (of-act _ is) in
-        let left = clean-left known (left_uses statement.at around target.indices condition) (uses (right_standing known.state target.name) right_at around (tree_of right)) whole.1 in
+        let left = clean-left known (left_uses statement.at around target.indices condition) (uses (right_context known.state target.name) right_at around (tree_of right)) whole.1 in
         clean-shift among around (clean-left known (shift_uses around (index_list target.indices)) (condition_uses statement.at around (option_map tree_of condition)) left)
     clean-expression (amount_in_definition equation indices condition left_at left side right_at right is among) =
         let around = with_left controlled indices in
@@ -315,7 +315,7 @@ module _ {F : Type 0} (known : Known F) where
     clean-expression (condition_of_assignment target condition right_at right is) =
         let around = with_left controlled target.indices in
         let whole = subst (AreClean known) (uses-Assign known.state statement.at controlled target (Some condition) right_at right) (of-act _ is) in
-        let left = clean-left known (left_uses statement.at around target.indices (Some condition)) (uses (right_standing known.state target.name) right_at around (tree_of right)) whole.1 in
+        let left = clean-left known (left_uses statement.at around target.indices (Some condition)) (uses (right_context known.state target.name) right_at around (tree_of right)) whole.1 in
         record { around = statement.at; controlled = around; clean = clean-right known (shift_uses around (index_list target.indices)) (uses as_condition statement.at around (tree_of condition)) left }
     clean-expression (condition_of_definition equation indices condition left_at left side right_at right is) =
         let around = with_left controlled indices in
@@ -381,4 +381,4 @@ module _ {F : Type 0} (value : F → Number) (program : Program F) (solvers : Li
       let c = clean-in o in
       let known = known_after value program solvers (sound before) in
       let read = sound-use known (reading (after_steps steps (in_role role)) c.controlled name suffix.None indices) c.clean.0 in
-      set-role role (set-steps steps (in_role role) (sym (ap (λ (k : SymbolKind). may_stand (after_steps steps (in_role role)) k suffix.None) is) ∙ read.is_placed))
+      set-role role (set-steps steps (in_role role) (sym (ap (λ (k : SymbolKind). may_occur (after_steps steps (in_role role)) k suffix.None) is) ∙ read.is_placed))

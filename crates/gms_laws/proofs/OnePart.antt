@@ -9,10 +9,10 @@ use Rattle.gms_grammar.specs.GamsLookAhead.{look_ahead}
 use Rattle.gms_grammar.specs.Reading.{Found, read, stuck, Reads}
 use Rattle.gms_grammar.specs.Rules as rules
 use Rattle.gms_grammar.specs.Rules.{kind_ahead, kind_of, AreFaultless}
-use Rattle.gms_grammar.proofs.Basics.{behind_same}
+use Rattle.gms_grammar.proofs.Basics.{after_same}
 use Rattle.gms_grammar.proofs.FirstFaults.{no_first, one_refused}
 use Rattle.gms_grammar.proofs.Language.{gams_unique, gams_read_tree, gams_read_stops, gams_stuck_stops, gams_stuck_none, gams_finds}
-use Rattle.gms_grammar.proofs.Rules.{walk_append, sound_append}
+use Rattle.gms_grammar.proofs.Rules.{read_state_append, sound_append}
 use Rattle.gms_grammar.proofs.Stopping.{stops_once}
 use Rattle.gms_expressions.specs.declared.fault.SyntaxError.TheVariants.{Depth, Number as OutOfRange, TooManyLabels}
 use Rattle.gms_expressions.specs.declared.fault.SyntaxFault.{SyntaxFault}
@@ -56,7 +56,7 @@ module _ (limit : ℕ) (source : List ℕ) (n : Nonterminal) (before : Expressio
   one_part after later rest others one other p q =
       let yields = stops_once productions (the n) tokens (yield one) rest (yield other) others p.stops q.stops in
       let same : one ≡ other = gams_unique n one other p.is_tree q.is_tree yields in
-      let following : rest ≡ others = behind_same (yield one) rest others (sym p.stops.parts ∙ q.stops.parts ∙ ap (λ (us : Tokens). us ++ others) (sym yields)) in
+      let following : rest ≡ others = after_same (yield one) rest others (sym p.stops.parts ∙ q.stops.parts ∙ ap (λ (us : Tokens). us ++ others) (sym yields)) in
       (same, (p.leaves ∙ ap₂ (λ (us vs : Tokens). state_after_tokens source before us (kind_of vs)) yields following ∙ sym q.leaves, following))
 
   -- ---- a part and a fault
@@ -68,7 +68,7 @@ module _ (limit : ℕ) (source : List ℕ) (n : Nonterminal) (before : Expressio
       prefix = stops_once productions (the n) tokens (yield part) rest none.prefix none.rest p.stops none.stops
 
       following : rest ≡ none.rest
-      following = behind_same (yield part) rest none.rest (sym p.stops.parts ∙ none.stops.parts ∙ ap (λ (us : Tokens). us ++ none.rest) (sym prefix))
+      following = after_same (yield part) rest none.rest (sym p.stops.parts ∙ none.stops.parts ∙ ap (λ (us : Tokens). us ++ none.rest) (sym prefix))
 
       by_cause : rules.IsFirstFaulty syntax_rule (limit, source) before none.prefix (kind_of none.rest) fault ⊎ rules.IsUnexpectedByRule syntax_rule (limit, source) (Derives productions (the n) none.prefix → ⊥) before none.prefix none.rest fault → ⊥
       by_cause (inl first) =
@@ -88,10 +88,10 @@ module _ (limit : ℕ) (source : List ℕ) (n : Nonterminal) (before : Expressio
           λ fault f. none fault (record { prefix = prefix; rest = rest; stops = stops; cause = inl (record { before = passed; token = t; following = left; parts = e; are_sound = s; is_faulty = f }) }) in
           let more : AreFaultless (syntax_rule (limit, source)) before (passed ++ t ∷ []) ahead = sound_append (syntax_rule (limit, source)) before passed (t ∷ []) ahead s (here, tt) in
           let others = sound_on (passed ++ t ∷ []) left (e ∙ sym (append_assoc passed (t ∷ []) left)) more in
-          (here, subst (λ (w : ExpressionState). AreFaultless (syntax_rule (limit, source)) w left (kind_of rest)) (walk_append (λ read_state token ahead. state_after_token source read_state token) before passed (t ∷ []) ahead) others)
+          (here, subst (λ (w : ExpressionState). AreFaultless (syntax_rule (limit, source)) w left (kind_of rest)) (read_state_append (λ read_state token ahead. state_after_token source read_state token) before passed (t ∷ []) ahead) others)
 
-      sound_front : AreFaultless (syntax_rule (limit, source)) before prefix (kind_of rest)
-      sound_front = sound_on [] prefix refl tt
+      sound_prefix : AreFaultless (syntax_rule (limit, source)) before prefix (kind_of rest)
+      sound_prefix = sound_on [] prefix refl tt
 
     by_found : (found : Found (Terminal × Token)) → Reads productions look_ahead (the n) tokens found → SomePart limit source n before tokens
     by_found (read tree rest) r =
@@ -100,7 +100,7 @@ module _ (limit : ℕ) (source : List ℕ) (n : Nonterminal) (before : Expressio
           after = state_after_tokens source before (yield tree) (kind_of rest);
           rest = rest;
           tree = tree;
-          is_part = record { is_tree = gams_read_tree n tokens rest tree r; stops = stops; are_sound = sound_front (yield tree) rest stops; leaves = refl };
+          is_part = record { is_tree = gams_read_tree n tokens rest tree r; stops = stops; are_sound = sound_prefix (yield tree) rest stops; leaves = refl };
         }
     by_found (stuck prefix rest) r =
         let stops = gams_stuck_stops no_token n tokens prefix rest r in
@@ -108,7 +108,7 @@ module _ (limit : ℕ) (source : List ℕ) (n : Nonterminal) (before : Expressio
           prefix = prefix;
           rest = rest;
           stops = stops;
-          cause = inr (record { needs = gams_stuck_none no_token n tokens prefix rest r; are_sound = sound_front prefix rest stops; is = refl });
+          cause = inr (record { needs = gams_stuck_none no_token n tokens prefix rest r; are_sound = sound_prefix prefix rest stops; is = refl });
         }))
 
     pub not_neither : SomePart limit source n before tokens

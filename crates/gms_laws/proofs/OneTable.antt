@@ -15,7 +15,7 @@ use Rattle.gms_table.specs.TableEntries.{TablePart, name, cell, nowhere, table_p
 use Rattle.gms_grammar.proofs.Orders.{Order, at_once, earlier, later, order, some_there}
 use Rattle.gms_parse.specs.Tables.{entries_in}
 use Rattle.gms_parse.proofs.Ranges.{entered_there}
-use Rattle.gms_parse.proofs.TableFaults.{stands_not}
+use Rattle.gms_parse.proofs.TableFaults.{occurs_not}
 use Rattle.gms_parse.proofs.TableItems.{entries_only}
 use Rattle.gms_parse.proofs.TableSound.{sound_table, placed_table, entries_there}
 use Rattle.gms_laws.specs.Tables.{meant_entry, HasEntries}
@@ -58,12 +58,12 @@ same_least limit labels parts one other f g = by_order (order f.before f.part f.
   where
     by_order : Order f.before f.part f.following g.before g.part g.following → one ≡ other
     by_order (earlier w e k) =
-        absurd (stands_not limit labels [] f.before f.part w one.error (subst (λ (ps : List TablePart). ArePartsFaultless limit labels [] ps) e g.sound) f.stands)
+        absurd (occurs_not limit labels [] f.before f.part w one.error (subst (λ (ps : List TablePart). ArePartsFaultless limit labels [] ps) e g.sound) f.occurs)
     by_order (later w e k) =
-        absurd (stands_not limit labels [] g.before g.part w other.error (subst (λ (ps : List TablePart). ArePartsFaultless limit labels [] ps) e f.sound) g.stands)
+        absurd (occurs_not limit labels [] g.before g.part w other.error (subst (λ (ps : List TablePart). ArePartsFaultless limit labels [] ps) e f.sound) g.occurs)
     by_order (at_once prefix part rest) =
-        let less = f.least other.error (subst (λ (ps : List TablePart). IsPartFault limit labels ps f.part other.error) (sym prefix) (subst (λ (p : TablePart). IsPartFault limit labels g.before p other.error) (sym part) g.stands)) in
-        let more = g.least one.error (subst (λ (ps : List TablePart). IsPartFault limit labels ps g.part one.error) prefix (subst (λ (p : TablePart). IsPartFault limit labels f.before p one.error) part f.stands)) in
+        let less = f.least other.error (subst (λ (ps : List TablePart). IsPartFault limit labels ps f.part other.error) (sym prefix) (subst (λ (p : TablePart). IsPartFault limit labels g.before p other.error) (sym part) g.occurs)) in
+        let more = g.least one.error (subst (λ (ps : List TablePart). IsPartFault limit labels ps g.part one.error) prefix (subst (λ (p : TablePart). IsPartFault limit labels f.before p one.error) part f.occurs)) in
         let codes : table_error_code one.error ≡ table_error_code other.error = omega (arith, less, more) in
         ap₂ (λ (e : TableError) (p : Place). record { error = e; at = p }) (sym (with_own_code one.error) ∙ ap with_code codes ∙ with_own_code other.error) (f.at ∙ ap place_of_part part ∙ sym g.at)
 
@@ -88,7 +88,7 @@ module _ (limit : ℕ) (lines : List TableLine) (before : List (List ℕ)) where
   pub not_both : (after : List (List ℕ)) (entries : List (Entry Number)) (fault : TableFault) → HasEntries limit lines before after entries → IsTableFault limit lines before fault → ⊥
   not_both after entries fault t (inl none) = t.headed none.0
   not_both after entries fault t (inr f) =
-      stands_not limit before [] f.before f.part f.following fault.error (subst (λ (ps : List TablePart). ArePartsFaultless limit before [] ps) f.parts_are t.sound) f.stands
+      occurs_not limit before [] f.before f.part f.following fault.error (subst (λ (ps : List TablePart). ArePartsFaultless limit before [] ps) f.parts_are t.sound) f.occurs
 
   pub not_neither : ((fault : TableFault) → IsTableFault limit lines before fault → ⊥) → (after : List (List ℕ)) × ((entries : List (Entry Number)) × HasEntries limit lines before after entries)
   not_neither none =

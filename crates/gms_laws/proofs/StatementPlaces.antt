@@ -45,7 +45,7 @@ use Rattle.gms_check.specs.Errors.{comes_first, earlier, first_error}
 use Rattle.gms_check.specs.Past.{Known, Past}
 use Rattle.gms_check.specs.Contexts.{as_condition, as_side}
 use Rattle.gms_check.specs.InnerStatements.{act_uses}
-use Rattle.gms_check.specs.StatementUses.{index_list, left_uses, option_uses, right_standing, setting_place, show_uses, statement_uses, with_left}
+use Rattle.gms_check.specs.StatementUses.{index_list, left_uses, option_uses, right_context, setting_place, show_uses, statement_uses, with_left}
 use Rattle.gms_check.specs.Uses.{Use, Uses, condition_uses, control_uses, placing, listing, sets_of_control, shift_uses, uses}
 use Rattle.gms_check.proofs.ActUses.{uses-Abort, uses-Alias, uses-Assign, uses-Declare, uses-Define, uses-Display, uses-Loop, uses-Model, uses-Options, uses-Solve, uses-act}
 use Rattle.gms_laws.specs.Occurrences.{IsExpressionOf, Role, amount_in_assignment, amount_in_definition, condition_of_abort, condition_of_assignment, condition_of_definition, condition_of_loop, left_side, right_of_set, right_of_value, right_side}
@@ -132,7 +132,7 @@ module _ {F : Type 0} where
       assign-places : (target : Target F) (condition : Option (Expr F)) (right_at : Place) (right : Expr F) → statement.act ≡ Assign target condition right_at (Value right) → Each Here (act_uses (Assign target condition right_at (Value right)) state statement.at controlled)
       assign-places target condition right_at right is =
           let around = with_left controlled target.indices in
-          subst (Each Here) (sym (uses-Assign state statement.at controlled target condition right_at right)) (target_at is refl, each-both Here (left_uses statement.at around target.indices condition) (uses (right_standing state target.name) right_at around (tree_of right)) (each-both Here (shift_uses around (index_list target.indices)) (condition_uses statement.at around (option_map tree_of condition)) (each-weaker (IsNearAmount (index_list target.indices)) Here amount (shift_uses around (index_list target.indices)) (shift-places (index_list target.indices) around)) (conditions condition is around)) (right-places (is_set (symbol_at state target.name).content) refl around))
+          subst (Each Here) (sym (uses-Assign state statement.at controlled target condition right_at right)) (target_at is refl, each-both Here (left_uses statement.at around target.indices condition) (uses (right_context state target.name) right_at around (tree_of right)) (each-both Here (shift_uses around (index_list target.indices)) (condition_uses statement.at around (option_map tree_of condition)) (each-weaker (IsNearAmount (index_list target.indices)) Here amount (shift_uses around (index_list target.indices)) (shift-places (index_list target.indices) around)) (conditions condition is around)) (right-places (is_set (symbol_at state target.name).content) refl around))
         where
           amount : (at : Place) → IsNearAmount (index_list target.indices) at → IsPlaceOf at statement
           amount at (at_amount where_is) = left_amount_at is where_is
@@ -142,9 +142,9 @@ module _ {F : Type 0} where
           conditions None is around = tt
           conditions (Some condition) is around = expression {state = state} (condition_of_assignment target condition right_at right is) statement.at at-own as_condition around
 
-          right-places : (b : Bool) → is_set (symbol_at state target.name).content ≡ b → (around : List ℕ) → Each Here (uses (right_standing state target.name) right_at around (tree_of right))
-          right-places true of_set around = expression {state = state} (right_of_set target condition right_at right is of_set) right_at (assigned_at is refl) (right_standing state target.name) around
-          right-places false no_set around = expression {state = state} (right_of_value target condition right_at right is no_set) right_at (assigned_at is refl) (right_standing state target.name) around
+          right-places : (b : Bool) → is_set (symbol_at state target.name).content ≡ b → (around : List ℕ) → Each Here (uses (right_context state target.name) right_at around (tree_of right))
+          right-places true of_set around = expression {state = state} (right_of_set target condition right_at right is of_set) right_at (assigned_at is refl) (right_context state target.name) around
+          right-places false no_set around = expression {state = state} (right_of_value target condition right_at right is no_set) right_at (assigned_at is refl) (right_context state target.name) around
 
       define-places : (equation : Named) (indices : List (Index F)) (condition : Option (Expr F)) (left_at : Place) (left : Expr F) (side : Side) (right_at : Place) (right : Expr F) → statement.act ≡ Define equation indices condition left_at left side right_at right → Each Here (act_uses (Define equation indices condition left_at left side right_at right) state statement.at controlled)
       define-places equation indices condition left_at left side right_at right is =

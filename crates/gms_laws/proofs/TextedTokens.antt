@@ -101,8 +101,8 @@ labels_is source read_state token ahead =
     ap (λ (ls : List (List ℕ)). if is_index read_state token.0 then unquoted (token_text source token.1) ∷ [] else (if is terminal.Label token.0 then ls else (if is terminal.TableLine token.0 && not (is terminal.TableLine ahead) then labels_of_lines source (lines_with source read_state.before token) else [])))
     (listed_is source (range_start read_state.before) ahead token.1)
 
-abbrev walk_with : List ℕ → List (List ℕ) → ReaderState → KindedToken → ReaderState
-walk_with text labels read_state token =
+abbrev read_state_with : List ℕ → List (List ℕ) → ReaderState → KindedToken → ReaderState
+read_state_with text labels read_state token =
     let begins = is_keyword token.0 || is terminal.Semicolon token.0 in
     record {
       open_count = open_after read_state.open_count token.0;
@@ -114,12 +114,12 @@ walk_with text labels read_state token =
     }
 
 abbrev pub traversal_by : List ℕ → List ℕ → ReaderState → KindedToken → Terminal → ReaderState
-traversal_by source text read_state token ahead = walk_with text (labels_by source text read_state token ahead) read_state token
+traversal_by source text read_state token ahead = read_state_with text (labels_by source text read_state token ahead) read_state token
 
-walk_is : (source text : List ℕ) (read_state : ReaderState) (token : KindedToken) (ahead : Terminal) → token_text source token.1 ≡ text → traversal_by source text read_state token ahead ≡ reader_after source read_state token ahead
-walk_is source text read_state token ahead e =
+read_state_is : (source text : List ℕ) (read_state : ReaderState) (token : KindedToken) (ahead : Terminal) → token_text source token.1 ≡ text → traversal_by source text read_state token ahead ≡ reader_after source read_state token ahead
+read_state_is source text read_state token ahead e =
     ap (λ (x : List ℕ). traversal_by source x read_state token ahead) (sym e)
-    ∙ ap (λ (ls : List (List ℕ)). walk_with (token_text source token.1) ls read_state token) (labels_is source read_state token ahead)
+    ∙ ap (λ (ls : List (List ℕ)). read_state_with (token_text source token.1) ls read_state token) (labels_is source read_state token ahead)
 
 -- the kind of the first of the tokens, or else this one
 abbrev ahead_by : List Texted → Terminal → Terminal
@@ -142,7 +142,7 @@ left_is source read_state (t ∷ ts) ahead h =
     let next = kind_ahead (map seen_one ts) ahead in
     ap (λ (k : Terminal). left_by_texts source (traversal_by source t.1 read_state (seen_one t) k) ts ahead) (ahead_is ts ahead)
     ∙ left_is source (traversal_by source t.1 read_state (seen_one t) next) ts ahead h.1
-    ∙ ap (λ (w : ReaderState). reader_after_all source w (map seen_one ts) ahead) (walk_is source t.1 read_state (seen_one t) next h.0)
+    ∙ ap (λ (w : ReaderState). reader_after_all source w (map seen_one ts) ahead) (read_state_is source t.1 read_state (seen_one t) next h.0)
 
 -- ---- that no token has a fault
 
@@ -173,4 +173,4 @@ sound_is source read_state (t ∷ ts) ahead h s =
     subst (λ (x : List ℕ). sound_with x (labels_by source x read_state token next) read_state token ≡ true) (sym h.0) here in
     let sound = subst (λ (ls : List (List ℕ)). sound_with (token_text source t.0) ls read_state token ≡ true) (labels_is source read_state token next) plain in
     let rest : all_sound source (traversal_by source t.1 read_state token next) (map seen_one ts) ahead ≡ true = sound_is source (traversal_by source t.1 read_state token next) ts ahead h.1 others in
-    and_from _ _ sound (subst (λ (w : ReaderState). all_sound source w (map seen_one ts) ahead ≡ true) (walk_is source t.1 read_state token next h.0) rest)
+    and_from _ _ sound (subst (λ (w : ReaderState). all_sound source w (map seen_one ts) ahead ≡ true) (read_state_is source t.1 read_state token next h.0) rest)

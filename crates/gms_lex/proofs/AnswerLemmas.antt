@@ -49,7 +49,7 @@ answers_tokens source a tokens b p q e = record {
 pub answers_fault : (source : List ℕ) (a : Option ByteFault) (tokens : List Token) (b : Option ByteFault) (f : ByteFault) → IsFirstFault (IsLineFault source) a → IsReading source (code_text source) tokens b → earlier a b ≡ Some f → IsLexFault source record { error = f.error; at = place_of_byte source f.at }
 answers_fault source a tokens b f p q e =
     let first : IsFirstFault (IsByteFault source) (Some f) = subst (IsFirstFault (IsByteFault source)) e (first_of_passes source a tokens b p q) in
-    record { byte = f.at; at = refl; stands = first.0; first = first.1 }
+    record { byte = f.at; at = refl; occurs = first.0; first = first.1 }
 
 some_cases : (a b : Option ByteFault) (f : ByteFault) → earlier a b ≡ Some f → (a ≡ Some f) ⊎ (b ≡ Some f)
 some_cases None b f e = inr e
@@ -66,7 +66,7 @@ answers_within source a tokens b f long p q e = elim (some_cases a b f e) [
 -- the meaning of a source, by its first fault
 meaning_by_first : (source : List ℕ) (r : Option ByteFault) → IsFirstFault (IsByteFault source) r → (r ≡ None → (tokens : List Token) × HasTokens source (code_text source) tokens) → (meaning : Result (List Token) LexFault) × Means source meaning
 meaning_by_first source None first has = let tokens = has refl in (Ok tokens.0, record { sound = first; has = tokens.1 })
-meaning_by_first source (Some f) first has = (Err record { error = f.error; at = place_of_byte source f.at }, record { byte = f.at; at = refl; stands = first.0; first = first.1 })
+meaning_by_first source (Some f) first has = (Err record { error = f.error; at = place_of_byte source f.at }, record { byte = f.at; at = refl; occurs = first.0; first = first.1 })
 
 -- each source has tokens or a first fault
 pub means_one : (source : List ℕ) → (meaning : Result (List Token) LexFault) × Means source meaning
@@ -109,10 +109,10 @@ same_fault f g (inr a) (inr b) =
 -- a source has one list of tokens at most, or one first fault, and not both
 pub means_only : (source : List ℕ) (one other : Result (List Token) LexFault) → Means source one → Means source other → one ≡ other
 means_only source (Ok ts) (Ok us) p q = let same = HasTokens-unique source (code_text source) ts us p.has q.has in cc
-means_only source (Ok ts) (Err f) p q = absurd (p.sound record { at = q.byte; error = f.error } q.stands)
-means_only source (Err f) (Ok ts) p q = absurd (q.sound record { at = p.byte; error = f.error } p.stands)
+means_only source (Ok ts) (Err f) p q = absurd (p.sound record { at = q.byte; error = f.error } q.occurs)
+means_only source (Err f) (Ok ts) p q = absurd (q.sound record { at = p.byte; error = f.error } p.occurs)
 means_only source (Err f) (Err g) p q =
-    let same = same_fault record { at = p.byte; error = f.error } record { at = q.byte; error = g.error } (p.first record { at = q.byte; error = g.error } q.stands) (q.first record { at = p.byte; error = f.error } p.stands) in
+    let same = same_fault record { at = p.byte; error = f.error } record { at = q.byte; error = g.error } (p.first record { at = q.byte; error = g.error } q.occurs) (q.first record { at = p.byte; error = f.error } p.occurs) in
     let place : f.at ≡ g.at = p.at ∙ ap (place_of_byte source) same.0 ∙ sym q.at in
     let fault : f ≡ g = ap (λ (e : LexError). (let h : LexFault = record { error = e; at = f.at } in h)) same.1 ∙ ap (λ (at : Place). (let h : LexFault = record { error = g.error; at = at } in h)) place in
     cc

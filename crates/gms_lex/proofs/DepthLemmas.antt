@@ -34,14 +34,14 @@ if_depth : (b : Bool) (x y : Mode) (d : ℕ) → depth_of x ≤ d → depth_of y
 if_depth true x y d p q = p
 if_depth false x y d p q = q
 
-behind_element_depth : (s : Shape) (d : ℕ) → depth_of (after_element s d) ≤ d
-behind_element_depth s d = if_depth (d == 0) (Tail s) (Element s d After) d (omega arith) (omega arith)
+after_element_depth : (s : Shape) (d : ℕ) → depth_of (after_element s d) ≤ d
+after_element_depth s d = if_depth (d == 0) (Tail s) (Element s d After) d (omega arith) (omega arith)
 
 plain_depth : (current : Mode) → depth_of (after_plain current) ≤ depth_of current
 plain_depth (Element s d Fresh) = omega arith
 plain_depth (Element s d Expected) = omega arith
-plain_depth (Element s d After) = behind_element_depth s d
-plain_depth (Element s d Spaced) = behind_element_depth s d
+plain_depth (Element s d After) = after_element_depth s d
+plain_depth (Element s d Spaced) = after_element_depth s d
 plain_depth current = omega arith
 
 word_depth : (current : Mode) (word : List ℕ) → depth_of (after_word current word) ≤ depth_of current
@@ -61,12 +61,12 @@ item_symbol_depth s symbol current d h = h
 comma_depth : (s : Shape) (d : ℕ) → depth_of (after_comma s d) ≤ d
 comma_depth s d = if_depth (d == 0) (list_start s) (Element s d Expected) d (list_start_depth s d) (omega arith)
 
-due_symbol_depth : (s : Shape) (d : ℕ) (symbol : Sym) → depth_of (after_expected_symbol s d symbol) ≤ d + 1
-due_symbol_depth s d LeftParen = omega arith
-due_symbol_depth s d RightParen = omega arith
-due_symbol_depth s d Comma = omega (arith, comma_depth s d)
-due_symbol_depth s d Slash = omega arith
-due_symbol_depth s d symbol = omega arith
+expected_symbol_depth : (s : Shape) (d : ℕ) (symbol : Sym) → depth_of (after_expected_symbol s d symbol) ≤ d + 1
+expected_symbol_depth s d LeftParen = omega arith
+expected_symbol_depth s d RightParen = omega arith
+expected_symbol_depth s d Comma = omega (arith, comma_depth s d)
+expected_symbol_depth s d Slash = omega arith
+expected_symbol_depth s d symbol = omega arith
 
 element_symbol_depth : (s : Shape) (d : ℕ) (symbol : Sym) → depth_of (after_element_symbol s d symbol) ≤ d + 1
 element_symbol_depth s d RightParen = omega arith
@@ -76,7 +76,7 @@ element_symbol_depth s d Dot = omega arith
 element_symbol_depth s d DotDot = omega arith
 element_symbol_depth s d Star = omega arith
 element_symbol_depth s d Power = omega arith
-element_symbol_depth s d symbol = omega (arith, behind_element_depth s d)
+element_symbol_depth s d symbol = omega (arith, after_element_depth s d)
 
 stray_depth : (s : Shape) (d : ℕ) → depth_of (after_stray_paren s) ≤ d
 stray_depth Set d = omega arith
@@ -96,8 +96,8 @@ name_symbol_depth s Slash = list_start_depth s 1
 name_symbol_depth s symbol = omega arith
 
 list_symbol_depth : (s : Shape) (d : ℕ) (stage : Stage) (symbol : Sym) → depth_of (after_list_symbol s d stage symbol) ≤ d + 1
-list_symbol_depth s d Fresh symbol = due_symbol_depth s d symbol
-list_symbol_depth s d Expected symbol = due_symbol_depth s d symbol
+list_symbol_depth s d Fresh symbol = expected_symbol_depth s d symbol
+list_symbol_depth s d Expected symbol = expected_symbol_depth s d symbol
 list_symbol_depth s d After symbol = element_symbol_depth s d symbol
 list_symbol_depth s d Spaced symbol = element_symbol_depth s d symbol
 

@@ -140,8 +140,8 @@ line_same Code line lo n s = refl
 pub on_line : (read rest : List ℕ) (lo n : ℕ) → lo + n ≤ length read → take n (drop lo (read ++ rest)) ≡ take n (drop lo read)
 on_line read rest lo n le = ap (take n) (drop-append-le lo read rest (omega arith)) ∙ take-append-le n (drop lo read) rest (omega (arith, length-drop lo read))
 
-pub behind_line : (read rest : List ℕ) (lo len : ℕ) → length read ≡ len → len ≤ lo → drop lo (read ++ rest) ≡ drop (lo - len) rest
-behind_line read rest lo len long le =
+pub after_line : (read rest : List ℕ) (lo len : ℕ) → length read ≡ len → len ≤ lo → drop lo (read ++ rest) ≡ drop (lo - len) rest
+after_line read rest lo len long le =
     let e : length read + (lo - len) ≡ lo = omega arith in
     ap (λ k. drop k (read ++ rest)) (sym e) ∙ drop-append-add read rest (lo - len)
 
@@ -170,8 +170,8 @@ same_text inside (line ∷ others) lo n ended le s =
     let long : length read ≡ length line = length-read_as class line in
     elim (below_or lo (length line)) [
       | inr ge ↦
-          let code_is : drop lo (read ++ rest) ≡ drop (lo - length line) rest = behind_line read rest lo (length line) long ge in
-          let source_is : drop lo (line ++ joined others) ≡ drop (lo - length line) (joined others) = behind_line line (joined others) lo (length line) refl ge in
+          let code_is : drop lo (read ++ rest) ≡ drop (lo - length line) rest = after_line read rest lo (length line) long ge in
+          let source_is : drop lo (line ++ joined others) ≡ drop (lo - length line) (joined others) = after_line line (joined others) lo (length line) refl ge in
           ap (take n) code_is
           ∙ same_text (inside_after inside line) others (lo - length line) n ended.1 (omega (arith, length-append read rest, long)) (subst IsSolid (ap (take n) code_is) s)
           ∙ sym (ap (take n) source_is)

@@ -33,12 +33,12 @@ use Rattle.gms_lex.specs.Pieces.{passes, ends_or_begins, begins_other, space_len
 use Rattle.gms_lex.specs.Spellings.{IsWord, IsLabel, IsQuoted, IsText, IsSymbol, IsNumberSpelling}
 use Rattle.gms_lex.specs.Longest.{IsCode, IsElementPiece, IsMarkOrText, IsValuePiece, IsAfterElementPiece, IsInList, IsOfTable, IsAllowedPiece, has_text, IsLongest, IsRefusedPiece}
 use Rattle.gms_lex.specs.Apart.{is_space, IsOneLineEnd}
-use Rattle.gms_lex.proofs.PrefixLemmas.{not_both, front_most, front_all, begins_take, begins_front, begins_apart}
+use Rattle.gms_lex.proofs.PrefixLemmas.{not_both, prefix_most, prefix_all, begins_take, begins_prefix, begins_apart}
 use Rattle.gms_lex.proofs.NumberLemmas.{number_most, number_begins, number_positive, number_spelled}
 use Rattle.gms_lex.specs.TokenTexts.{unquoted}
 use Rattle.gms_lex.proofs.UnquotedLemmas.{unquoted_same}
 use Rattle.gms_lex.proofs.SymbolLemmas.{is_outside, symbol_outside, point_symbol}
-use Rattle.gms_lex.proofs.LongestTexts.{Allowing, IsMost, IsRefusedBy, IsLongestRead, if_longest, quoted_begins, bad_byte, quoted_longest, symbol_longest, symbol_front, remark_longest}
+use Rattle.gms_lex.proofs.LongestTexts.{Allowing, IsMost, IsRefusedBy, IsLongestRead, if_longest, quoted_begins, bad_byte, quoted_longest, symbol_longest, symbol_prefix, remark_longest}
 
 -- ---- bytes of two kinds
 
@@ -85,8 +85,8 @@ mark_digit : (b : ℕ) → is_element_mark b ≡ true → is_ascii_digit b ≡ t
 mark_digit b h g = grind (arith, nat_tests, h, g)
 
 -- how a number begins
-number_front : (text : List ℕ) → begins_number text ≡ true → (begins is_ascii_digit text ≡ true) ⊎ ((begins is_ascii_digit text ≡ false) × (begins_dot text ≡ true) × (begins is_ascii_digit (drop 1 text) ≡ true))
-number_front text h = elim (true_or_false (begins is_ascii_digit text)) [
+number_prefix : (text : List ℕ) → begins_number text ≡ true → (begins is_ascii_digit text ≡ true) ⊎ ((begins is_ascii_digit text ≡ false) × (begins_dot text ≡ true) × (begins is_ascii_digit (drop 1 text) ≡ true))
+number_prefix text h = elim (true_or_false (begins is_ascii_digit text)) [
   | inl d ↦ inl d
   | inr d ↦
       let dot : (begins_dot text && begins is_ascii_digit (drop 1 text)) ≡ true = subst (λ v. (v || (begins_dot text && begins is_ascii_digit (drop 1 text))) ≡ true) d h in
@@ -96,7 +96,7 @@ number_front text h = elim (true_or_false (begins is_ascii_digit text)) [
 
 -- a text that begins with a byte of a kind that begins no number
 number_apart : {A : Type 0} (test : ℕ → Bool) (text : List ℕ) → ((b : ℕ) → test b ≡ true → is_ascii_digit b ≡ true → ⊥) → ((b : ℕ) → test b ≡ true → (b == 46) ≡ true → ⊥) → begins test text ≡ true → begins_number text ≡ true → A
-number_apart test text digit dot h number = elim (number_front text number) [
+number_apart test text digit dot h number = elim (number_prefix text number) [
   | inl d ↦ begins_apart test is_ascii_digit text digit h d
   | inr both ↦ begins_apart test (λ b. b == 46) text dot h both.1
 ]
@@ -144,34 +144,34 @@ alphanumeric_in_label b h = ap (λ v. v || (b == 43 || (b == 45 || b == 95))) h
 
 -- where a letter begins the text
 word_most : (text : List ℕ) → begins is_ascii_alphabetic text ≡ true → (n : ℕ) → n ≤ length text → IsSpelledCode (take n text) (drop n text) → n ≤ prefix_len is_name_byte text
-word_most text letter n le (inl word) = front_most is_name_byte n text le word.1
+word_most text letter n le (inl word) = prefix_most is_name_byte n text le word.1
 word_most text letter n le (inr (inl number)) = number_apart is_ascii_alphabetic text letter_digit letter_dot letter (number_begins n text number)
 word_most text letter n le (inr (inr (inl quote))) = begins_apart is_ascii_alphabetic is_quote text letter_quote letter (quoted_begins n text quote)
-word_most text letter n le (inr (inr (inr s))) = begins_apart is_ascii_alphabetic is_outside text letter_outside letter (symbol_front s.0 n text s.1)
+word_most text letter n le (inr (inr (inr s))) = begins_apart is_ascii_alphabetic is_outside text letter_outside letter (symbol_prefix s.0 n text s.1)
 
 -- where a number begins the text
 symbol_before_number : (text : List ℕ) → begins_number text ≡ true → (s : Sym) (n : ℕ) → n ≤ length text → IsSymbol s (take n text) → n ≤ number_length text
-symbol_before_number text number s n le h = elim (number_front text number) [
-  | inl d ↦ begins_apart is_ascii_digit is_outside text digit_outside d (symbol_front s n text h)
+symbol_before_number text number s n le h = elim (number_prefix text number) [
+  | inl d ↦ begins_apart is_ascii_digit is_outside text digit_outside d (symbol_prefix s n text h)
   | inr both ↦ omega (arith, point_symbol s n text le both.1 both.2 h, number_positive text number)
 ]
 
 number_is_most : (text : List ℕ) → begins is_ascii_alphabetic text ≡ false → begins_number text ≡ true → (n : ℕ) → n ≤ length text → IsSpelledCode (take n text) (drop n text) → n ≤ number_length text
-number_is_most text letter number n le (inl word) = not_both (begins is_ascii_alphabetic text) (begins_front is_ascii_alphabetic n text word.0) letter
+number_is_most text letter number n le (inl word) = not_both (begins is_ascii_alphabetic text) (begins_prefix is_ascii_alphabetic n text word.0) letter
 number_is_most text letter number n le (inr (inl other)) = number_most n text le other
 number_is_most text letter number n le (inr (inr (inl quote))) = number_apart is_quote text (λ b g h. digit_quote b h g) (λ b g h. dot_quote b h g) (quoted_begins n text quote) number
 number_is_most text letter number n le (inr (inr (inr s))) = symbol_before_number text number s.0 n le s.1
 
 -- where a quotation mark begins the text
 quote_only : (text : List ℕ) → begins is_ascii_alphabetic text ≡ false → begins_number text ≡ false → begins is_quote text ≡ true → (n : ℕ) → IsSpelledCode (take n text) (drop n text) → IsQuoted (take n text)
-quote_only text letter number quote n (inl word) = not_both (begins is_ascii_alphabetic text) (begins_front is_ascii_alphabetic n text word.0) letter
+quote_only text letter number quote n (inl word) = not_both (begins is_ascii_alphabetic text) (begins_prefix is_ascii_alphabetic n text word.0) letter
 quote_only text letter number quote n (inr (inl other)) = not_both (begins_number text) (number_begins n text other) number
 quote_only text letter number quote n (inr (inr (inl q))) = q
-quote_only text letter number quote n (inr (inr (inr s))) = begins_apart is_quote is_outside text quote_outside quote (symbol_front s.0 n text s.1)
+quote_only text letter number quote n (inr (inr (inr s))) = begins_apart is_quote is_outside text quote_outside quote (symbol_prefix s.0 n text s.1)
 
 -- where none of these does
 symbol_only : (text : List ℕ) → begins is_ascii_alphabetic text ≡ false → begins_number text ≡ false → begins is_quote text ≡ false → (n : ℕ) → IsSpelledCode (take n text) (drop n text) → (s : Sym) × IsSymbol s (take n text)
-symbol_only text letter number quote n (inl word) = not_both (begins is_ascii_alphabetic text) (begins_front is_ascii_alphabetic n text word.0) letter
+symbol_only text letter number quote n (inl word) = not_both (begins is_ascii_alphabetic text) (begins_prefix is_ascii_alphabetic n text word.0) letter
 symbol_only text letter number quote n (inr (inl other)) = not_both (begins_number text) (number_begins n text other) number
 symbol_only text letter number quote n (inr (inr (inl q))) = not_both (begins is_quote text) (quoted_begins n text q) quote
 symbol_only text letter number quote n (inr (inr (inr s))) = s
@@ -183,7 +183,7 @@ code_longest allowed kind text quotes may others =
     if_longest allowed text (begins is_ascii_alphabetic text) _ _
     (λ letter.
     let some : 0 < run = run_within is_ascii_alphabetic is_name_byte letter_in_name text letter in
-    let word : IsWord (take run text) = (begins_take is_ascii_alphabetic run text some ∙ letter, front_all is_name_byte text) in
+    let word : IsWord (take run text) = (begins_take is_ascii_alphabetic run text some ∙ letter, prefix_all is_name_byte text) in
     bounded_longest allowed Word run text (prefix_len-le-length is_name_byte text) (no_quote is_ascii_alphabetic text letter_quote letter) (may (Token Word) run word) (λ other n le h. word_most text letter n le (others other n le h)))
     (λ letter. if_longest allowed text (begins_number text) _ _
     (λ number. (may (Token Number) (number_length text) (number_spelled text number), λ other n le h. number_is_most text letter number n le (others other n le h)))
@@ -212,17 +212,17 @@ element_spelled LineEnd text h = absurd h
 element_spelled Remark text h = absurd h
 
 label_most : (text : List ℕ) → begins is_ascii_alphanumeric text ≡ true → (n : ℕ) → n ≤ length text → IsSpelledElement (take n text) → n ≤ prefix_len is_label_byte text
-label_most text label n le (inl other) = front_most is_label_byte n text le other.1
+label_most text label n le (inl other) = prefix_most is_label_byte n text le other.1
 label_most text label n le (inr (inl quote)) = begins_apart is_ascii_alphanumeric is_quote text label_quote label (quoted_begins n text quote)
-label_most text label n le (inr (inr s)) = begins_apart is_ascii_alphanumeric is_outside text label_outside label (symbol_front s.0 n text s.1)
+label_most text label n le (inr (inr s)) = begins_apart is_ascii_alphanumeric is_outside text label_outside label (symbol_prefix s.0 n text s.1)
 
 element_quote_only : (text : List ℕ) → begins is_ascii_alphanumeric text ≡ false → begins is_quote text ≡ true → (n : ℕ) → IsSpelledElement (take n text) → IsQuoted (take n text)
-element_quote_only text label quote n (inl other) = not_both (begins is_ascii_alphanumeric text) (begins_front is_ascii_alphanumeric n text other.0) label
+element_quote_only text label quote n (inl other) = not_both (begins is_ascii_alphanumeric text) (begins_prefix is_ascii_alphanumeric n text other.0) label
 element_quote_only text label quote n (inr (inl q)) = q
-element_quote_only text label quote n (inr (inr s)) = begins_apart is_quote is_outside text quote_outside quote (symbol_front s.0 n text s.1)
+element_quote_only text label quote n (inr (inr s)) = begins_apart is_quote is_outside text quote_outside quote (symbol_prefix s.0 n text s.1)
 
 element_symbol_only : (text : List ℕ) → begins is_ascii_alphanumeric text ≡ false → begins is_quote text ≡ false → (n : ℕ) → IsSpelledElement (take n text) → (s : Sym) × IsSymbol s (take n text)
-element_symbol_only text label quote n (inl other) = not_both (begins is_ascii_alphanumeric text) (begins_front is_ascii_alphanumeric n text other.0) label
+element_symbol_only text label quote n (inl other) = not_both (begins is_ascii_alphanumeric text) (begins_prefix is_ascii_alphanumeric n text other.0) label
 element_symbol_only text label quote n (inr (inl q)) = not_both (begins is_quote text) (quoted_begins n text q) quote
 element_symbol_only text label quote n (inr (inr s)) = s
 
@@ -233,7 +233,7 @@ element_longest allowed text may others =
     if_longest allowed text (begins is_ascii_alphanumeric text) _ _
     (λ label.
     let some : 0 < run = run_within is_ascii_alphanumeric is_label_byte alphanumeric_in_label text label in
-    let here : IsLabel (take run text) = (begins_take is_ascii_alphanumeric run text some ∙ label, front_all is_label_byte text) in
+    let here : IsLabel (take run text) = (begins_take is_ascii_alphanumeric run text some ∙ label, prefix_all is_label_byte text) in
     bounded_longest allowed Label run text (prefix_len-le-length is_label_byte text) (no_quote is_ascii_alphanumeric text label_quote label) (may (Token Label) run (inl here)) (λ other n le h. label_most text label n le (others other n le h)))
     (λ label. if_longest allowed text (begins is_quote text) _ _
     (λ quote. quoted_longest allowed (Token Label) text quote (λ n h. may (Token Label) n (inr h)) (λ other n le h. element_quote_only text label quote n (others other n le h)))
@@ -279,7 +279,7 @@ text_longest marks text none =
     remark_longest (λ piece n. IsMarkOrText marks piece (take n text)) text
     (λ n h. (begins_take marks n text (text_some n text h) ∙ none, h))
     (λ other n le h. elim (mark_or_text marks other (take n text) h) [
-      | inl is ↦ not_both (begins marks text) (begins_front marks n text is.0) none
+      | inl is ↦ not_both (begins marks text) (begins_prefix marks n text is.0) none
       | inr t ↦ t.1
     ])
 
@@ -336,16 +336,16 @@ no_mark_no_dot (b ∷ text) h = elim (true_or_false (b == 46)) [
 ]
 
 -- a prefix of a text that begins with no dot begins with none
-front_no_dot : (n : ℕ) (text : List ℕ) → begins_dot text ≡ false → begins_dot (take n text) ≡ false
-front_no_dot zero text h = refl
-front_no_dot (suc n) [] h = refl
-front_no_dot (suc n) (b ∷ text) h = h
+prefix_no_dot : (n : ℕ) (text : List ℕ) → begins_dot text ≡ false → begins_dot (take n text) ≡ false
+prefix_no_dot zero text h = refl
+prefix_no_dot (suc n) [] h = refl
+prefix_no_dot (suc n) (b ∷ text) h = h
 
 -- what begins with a mark and is spelled as a token of code, but is no number with a dot, is a
 -- symbol
 mark_only : (text : List ℕ) → begins is_element_mark text ≡ true → (n : ℕ) → (IsNumberSpelling (take n text) (drop n text) → begins_dot text ≡ false) → IsSpelledCode (take n text) (drop n text) → (s : Sym) × IsSymbol s (take n text)
-mark_only text mark n dot (inl word) = begins_apart is_element_mark is_ascii_alphabetic text mark_letter mark (begins_front is_ascii_alphabetic n text word.0)
-mark_only text mark n dot (inr (inl number)) = elim (number_front text (number_begins n text number)) [
+mark_only text mark n dot (inl word) = begins_apart is_element_mark is_ascii_alphabetic text mark_letter mark (begins_prefix is_ascii_alphabetic n text word.0)
+mark_only text mark n dot (inr (inl number)) = elim (number_prefix text (number_begins n text number)) [
   | inl d ↦ begins_apart is_element_mark is_ascii_digit text mark_digit mark d
   | inr both ↦ not_both (begins_dot text) both.1 (dot number)
 ]
@@ -353,20 +353,20 @@ mark_only text mark n dot (inr (inr (inl quote))) = begins_apart is_element_mark
 mark_only text mark n dot (inr (inr (inr s))) = s
 
 -- a number begins with a dot only if its text does
-dot_of_front : (n : ℕ) (text : List ℕ) → IsNumberSpelling (take n text) (drop n text) → begins_dot (take n text) ≡ false → begins_dot text ≡ false
-dot_of_front zero text number h =
+dot_of_prefix : (n : ℕ) (text : List ℕ) → IsNumberSpelling (take n text) (drop n text) → begins_dot (take n text) ≡ false → begins_dot text ≡ false
+dot_of_prefix zero text number h =
     let long : 0 ≡ length number.whole + (length number.point + length number.exponent) = omega (arith, ap length number.spelled, length-append number.whole (number.point ++ number.exponent), length-append number.point number.exponent) in
     elim number.some [ inl w ↦ absurd (omega (arith, w, long)) | inr p ↦ absurd (omega (arith, p, long)) ]
-dot_of_front (suc n) [] number h = refl
-dot_of_front (suc n) (b ∷ text) number h = h
+dot_of_prefix (suc n) [] number h = refl
+dot_of_prefix (suc n) (b ∷ text) number h = h
 
 -- directly after an element a number may not begin with a dot
 after_number : (piece : Piece) (n : ℕ) (text : List ℕ) → IsValuePiece After piece (take n text) (drop n text) → begins is_element_mark text ≡ true → (s : Sym) × IsSymbol s (take n text)
-after_number (Token Number) n text h mark = elim (number_front text (number_begins n text h.0)) [
+after_number (Token Number) n text h mark = elim (number_prefix text (number_begins n text h.0)) [
   | inl d ↦ begins_apart is_element_mark is_ascii_digit text mark_digit mark d
-  | inr both ↦ not_both (begins_dot text) both.1 (dot_of_front n text h.0 h.1)
+  | inr both ↦ not_both (begins_dot text) both.1 (dot_of_prefix n text h.0 h.1)
 ]
-after_number (Token Word) n text h mark = begins_apart is_element_mark is_ascii_alphabetic text mark_letter mark (begins_front is_ascii_alphabetic n text h.0)
+after_number (Token Word) n text h mark = begins_apart is_element_mark is_ascii_alphabetic text mark_letter mark (begins_prefix is_ascii_alphabetic n text h.0)
 after_number (Token (Symbol s)) n text h mark = (s, h)
 after_number (Token Text) n text h mark = begins_apart is_element_mark is_quote text mark_quote mark (quoted_begins n text h.1)
 after_number (Token Label) n text h mark = begins_apart is_element_mark is_quote text mark_quote mark (quoted_begins n text h.1)
@@ -386,7 +386,7 @@ digit_first (b ∷ text) h = digit_no_dot b h
 
 -- where a dot begins no value, a number at the text begins with none
 no_value_dot : (text : List ℕ) (n : ℕ) → (begins_dot text && begins is_ascii_digit (drop 1 text)) ≡ false → IsNumberSpelling (take n text) (drop n text) → begins_dot text ≡ false
-no_value_dot text n none number = elim (number_front text (number_begins n text number)) [
+no_value_dot text n none number = elim (number_prefix text (number_begins n text number)) [
   | inl d ↦ digit_first text d
   | inr both ↦ not_both (begins_dot text && begins is_ascii_digit (drop 1 text)) (and_from (begins_dot text) (begins is_ascii_digit (drop 1 text)) both.1 both.2) none
 ]
@@ -403,7 +403,7 @@ parameter_after text =
     (λ mark. symbol_longest allowed text (λ s n h. h) (λ other n le h. after_number other n text h (and_parts (begins is_element_mark text) true mark).0))
     (λ mark.
     let none : begins_dot text ≡ false = no_mark_no_dot text (and_false (begins is_element_mark text) mark) in
-    code_longest allowed Label text is_label_quoted (λ piece n h. code_value piece (take n text) (drop n text) (front_no_dot n text none) h) (λ other n le h. value_spelled After other (take n text) (drop n text) h))
+    code_longest allowed Label text is_label_quoted (λ piece n h. code_value piece (take n text) (drop n text) (prefix_no_dot n text none) h) (λ other n le h. value_spelled After other (take n text) (drop n text) h))
 
 -- in a parameter's list outside parentheses, after a blank
 parameter_spaced : (text : List ℕ) → IsLongestRead (λ piece n. IsValuePiece Spaced piece (take n text) (drop n text)) text (piece_after_label Parameter 0 Spaced text)
@@ -417,15 +417,15 @@ parameter_spaced text =
     (λ _. code_longest allowed Label text is_label_quoted (λ piece n h. h) (λ other n le h. code_spelled Label other (take n text) (drop n text) h))
 
 -- in a list of another shape outside parentheses
-other_behind : (text : List ℕ) → IsLongestRead (λ piece n. IsMarkOrText is_element_mark piece (take n text)) text (if begins is_element_mark text && true then symbol text else remark text)
-other_behind text =
+other_after : (text : List ℕ) → IsLongestRead (λ piece n. IsMarkOrText is_element_mark piece (take n text)) text (if begins is_element_mark text && true then symbol text else remark text)
+other_after text =
     if_longest (λ piece n. IsMarkOrText is_element_mark piece (take n text)) text (begins is_element_mark text && true) _ _
     (λ mark. mark_longest is_element_mark text (and_parts (begins is_element_mark text) true mark).0)
     (λ mark. text_longest is_element_mark text (and_false (begins is_element_mark text) mark))
 
 -- what begins with a mark, and is spelled as a token of a list, is a symbol
 element_mark_only : (text : List ℕ) → begins is_element_mark text ≡ true → (n : ℕ) → IsSpelledElement (take n text) → (s : Sym) × IsSymbol s (take n text)
-element_mark_only text mark n (inl label) = begins_apart is_element_mark is_ascii_alphanumeric text mark_label mark (begins_front is_ascii_alphanumeric n text label.0)
+element_mark_only text mark n (inl label) = begins_apart is_element_mark is_ascii_alphanumeric text mark_label mark (begins_prefix is_ascii_alphanumeric n text label.0)
 element_mark_only text mark n (inr (inl quote)) = begins_apart is_element_mark is_quote text mark_quote mark (quoted_begins n text quote)
 element_mark_only text mark n (inr (inr s)) = s
 
@@ -437,25 +437,25 @@ inside_longest text =
     (λ mark. symbol_longest allowed text (λ s n h. h) (λ other n le h. element_mark_only text (and_parts (begins is_element_mark text) true mark).0 n (element_spelled other (take n text) h)))
     (λ _. element_longest allowed text (λ piece n h. h) (λ other n le h. element_spelled other (take n text) h))
 
-due_longest : (text : List ℕ) → IsLongestRead (λ piece n. IsElementPiece piece (take n text)) text (label_token text)
-due_longest text = element_longest (λ piece n. IsElementPiece piece (take n text)) text (λ piece n h. h) (λ other n le h. element_spelled other (take n text) h)
+expected_longest : (text : List ℕ) → IsLongestRead (λ piece n. IsElementPiece piece (take n text)) text (label_token text)
+expected_longest text = element_longest (λ piece n. IsElementPiece piece (take n text)) text (λ piece n h. h) (λ other n le h. element_spelled other (take n text) h)
 
 -- after an element, with blanks between or without
-abbrev IsBehind : Stage → Type 0
-IsBehind Fresh = ⊥
-IsBehind Expected = ⊥
-IsBehind After = Unit {0}
-IsBehind Spaced = Unit {0}
+abbrev IsAfter : Stage → Type 0
+IsAfter Fresh = ⊥
+IsAfter Expected = ⊥
+IsAfter After = Unit {0}
+IsAfter Spaced = Unit {0}
 
-outside_longest : (shape : Shape) (stage : Stage) (text : List ℕ) → IsBehind stage → IsLongestRead (λ piece n. IsAfterElementPiece shape stage piece (take n text) (drop n text)) text (piece_after_label shape 0 stage text)
+outside_longest : (shape : Shape) (stage : Stage) (text : List ℕ) → IsAfter stage → IsLongestRead (λ piece n. IsAfterElementPiece shape stage piece (take n text) (drop n text)) text (piece_after_label shape 0 stage text)
 outside_longest Parameter After text h = parameter_after text
 outside_longest Parameter Spaced text h = parameter_spaced text
-outside_longest Set After text h = other_behind text
-outside_longest Set Spaced text h = other_behind text
-outside_longest Scalar After text h = other_behind text
-outside_longest Scalar Spaced text h = other_behind text
-outside_longest Model After text h = other_behind text
-outside_longest Model Spaced text h = other_behind text
+outside_longest Set After text h = other_after text
+outside_longest Set Spaced text h = other_after text
+outside_longest Scalar After text h = other_after text
+outside_longest Scalar Spaced text h = other_after text
+outside_longest Model After text h = other_after text
+outside_longest Model Spaced text h = other_after text
 outside_longest shape Fresh text h = absurd h
 outside_longest shape Expected text h = absurd h
 
@@ -478,8 +478,8 @@ nested_longest shape depth stage text =
     subst (IsLongestRead (λ piece n. IsElementPiece piece (take n text)) text) (sym (nested_is shape depth stage text)) (inside_longest text)
 
 list_longest : (shape : Shape) (depth : ℕ) (stage : Stage) (text : List ℕ) → IsLongestRead (λ piece n. IsInList shape depth stage piece (take n text) (drop n text)) text (in_list shape depth stage text)
-list_longest shape depth Fresh text = due_longest text
-list_longest shape depth Expected text = due_longest text
+list_longest shape depth Fresh text = expected_longest text
+list_longest shape depth Expected text = expected_longest text
 list_longest shape zero After text = outside_longest shape After text tt
 list_longest shape zero Spaced text = outside_longest shape Spaced text tt
 list_longest shape (suc depth) After text = nested_longest shape depth After text
@@ -548,17 +548,17 @@ value_tells Spaced piece text following h = code_tells Label piece text followin
 value_tells Fresh piece text following h = code_tells Label piece text following h
 value_tells Expected piece text following h = code_tells Label piece text following h
 
-behind_tells : (shape : Shape) (stage : Stage) (piece : Piece) (text following : List ℕ) → IsAfterElementPiece shape stage piece text following → Tells piece text
-behind_tells Parameter stage piece text following h = value_tells stage piece text following h
-behind_tells Set stage piece text following h = mark_tells is_element_mark piece text h
-behind_tells Scalar stage piece text following h = mark_tells is_element_mark piece text h
-behind_tells Model stage piece text following h = mark_tells is_element_mark piece text h
+after_tells : (shape : Shape) (stage : Stage) (piece : Piece) (text following : List ℕ) → IsAfterElementPiece shape stage piece text following → Tells piece text
+after_tells Parameter stage piece text following h = value_tells stage piece text following h
+after_tells Set stage piece text following h = mark_tells is_element_mark piece text h
+after_tells Scalar stage piece text following h = mark_tells is_element_mark piece text h
+after_tells Model stage piece text following h = mark_tells is_element_mark piece text h
 
 listed_tells : (shape : Shape) (depth : ℕ) (stage : Stage) (piece : Piece) (text following : List ℕ) → IsInList shape depth stage piece text following → Tells piece text
 listed_tells shape depth Fresh piece text following h = element_tells piece text h
 listed_tells shape depth Expected piece text following h = element_tells piece text h
-listed_tells shape zero After piece text following h = behind_tells shape After piece text following h
-listed_tells shape zero Spaced piece text following h = behind_tells shape Spaced piece text following h
+listed_tells shape zero After piece text following h = after_tells shape After piece text following h
+listed_tells shape zero Spaced piece text following h = after_tells shape Spaced piece text following h
 listed_tells shape (suc depth) After piece text following h = element_tells piece text h
 listed_tells shape (suc depth) Spaced piece text following h = element_tells piece text h
 
@@ -654,7 +654,7 @@ blank_space : (b : ℕ) → is_blank b ≡ true → is_space b ≡ true
 blank_space b h = ap (λ v. v || (b == 10 || b == 13)) h
 
 blanks_space : (text : List ℕ) → list_all is_space (take (prefix_len is_blank text) text) ≡ true
-blanks_space text = all_more is_blank is_space blank_space (take (prefix_len is_blank text) text) (front_all is_blank text)
+blanks_space text = all_more is_blank is_space blank_space (take (prefix_len is_blank text) text) (prefix_all is_blank text)
 
 feed_space : (b : ℕ) → (b == 10) ≡ true → is_space b ≡ true
 feed_space b h = grind (arith, nat_tests, h)
@@ -717,53 +717,53 @@ abbrev pub IsExpectedMode : Allowing → List ℕ → Lexeme → Type 0
 IsExpectedMode allowed text p =
     (has_text p.piece ≡ true → IsMost allowed text p) × (has_text p.piece ≡ false → list_all is_space (take p.length text) ≡ true)
 
-abbrev IsDueRead : Allowing → List ℕ → Read → Type 0
-IsDueRead allowed text (Ok p) = IsExpectedMode allowed text p
-IsDueRead allowed text (Err m) = IsRefusedBy allowed text m
+abbrev IsExpectedRead : Allowing → List ℕ → Read → Type 0
+IsExpectedRead allowed text (Ok p) = IsExpectedMode allowed text p
+IsExpectedRead allowed text (Err m) = IsRefusedBy allowed text m
 
-if_due : (allowed : Allowing) (text : List ℕ) (b : Bool) (x y : Read) → (b ≡ true → IsDueRead allowed text x) → (b ≡ false → IsDueRead allowed text y) → IsDueRead allowed text (if b then x else y)
-if_due allowed text true x y p q = p refl
-if_due allowed text false x y p q = q refl
+if_expected : (allowed : Allowing) (text : List ℕ) (b : Bool) (x y : Read) → (b ≡ true → IsExpectedRead allowed text x) → (b ≡ false → IsExpectedRead allowed text y) → IsExpectedRead allowed text (if b then x else y)
+if_expected allowed text true x y p q = p refl
+if_expected allowed text false x y p q = q refl
 
 -- what is the longest has a text
-longest_due : (allowed : Allowing) (text : List ℕ) (read : Read) → ((piece : Piece) (n : ℕ) → allowed piece n → Tells piece (take n text)) → IsLongestRead allowed text read → IsDueRead allowed text read
-longest_due allowed text (Ok p) tells h = (λ _. h, λ none. not_both (has_text p.piece) (tells p.piece p.length h.0).0 none)
-longest_due allowed text (Err m) tells h = h
+longest_expected : (allowed : Allowing) (text : List ℕ) (read : Read) → ((piece : Piece) (n : ℕ) → allowed piece n → Tells piece (take n text)) → IsLongestRead allowed text read → IsExpectedRead allowed text read
+longest_expected allowed text (Ok p) tells h = (λ _. h, λ none. not_both (has_text p.piece) (tells p.piece p.length h.0).0 none)
+longest_expected allowed text (Err m) tells h = h
 
 -- blanks and line ends have none
-no_text : (allowed : Allowing) (piece : Piece) (n : ℕ) (text : List ℕ) → has_text piece ≡ false → list_all is_space (take n text) ≡ true → IsDueRead allowed text (Ok record { piece = piece; length = n })
+no_text : (allowed : Allowing) (piece : Piece) (n : ℕ) (text : List ℕ) → has_text piece ≡ false → list_all is_space (take n text) ≡ true → IsExpectedRead allowed text (Ok record { piece = piece; length = n })
 no_text allowed piece n text none space = (λ some. not_both (has_text piece) some none, λ _. space)
 
-table_due : (text : List ℕ) → IsDueRead (IsOfTable text) text (table_piece text)
-table_due text =
+table_expected : (text : List ℕ) → IsExpectedRead (IsOfTable text) text (table_piece text)
+table_expected text =
     let blanks : ℕ = prefix_len is_blank text in
     let bytes : ℕ = table_bytes (content text) in
-    if_due (IsOfTable text) text (is_line_end text) _ _
+    if_expected (IsOfTable text) text (is_line_end text) _ _
     (λ h. no_text (IsOfTable text) LineEnd (line_end_length text) text refl (line_end_space text h))
-    (λ _. if_due (IsOfTable text) text (nat_lt 0 blanks && (nat_le bytes blanks || begins_statement (drop blanks text))) _ _
+    (λ _. if_expected (IsOfTable text) text (nat_lt 0 blanks && (nat_le bytes blanks || begins_statement (drop blanks text))) _ _
     (λ _. no_text (IsOfTable text) Gap blanks text refl (blanks_space text))
-    (λ _. if_due (IsOfTable text) text (bytes == 0 || begins_statement text) _ _
-    (λ ends. longest_due (IsOfTable text) text (code_token Text text) (table_tells text) (table_code_longest text ends))
-    (λ goes. longest_due (IsOfTable text) text (table_line bytes text) (table_tells text) (table_line_longest text goes))))
+    (λ _. if_expected (IsOfTable text) text (bytes == 0 || begins_statement text) _ _
+    (λ ends. longest_expected (IsOfTable text) text (code_token Text text) (table_tells text) (table_code_longest text ends))
+    (λ goes. longest_expected (IsOfTable text) text (table_line bytes text) (table_tells text) (table_line_longest text goes))))
 
-line_end_due : (allowed : Allowing) (ends : LineEnds) (text : List ℕ) → is_line_end text ≡ true → IsDueRead allowed text (line_end ends text)
-line_end_due allowed Skipped text h = no_text allowed LineEnd (line_end_length text) text refl (line_end_space text h)
-line_end_due allowed EndItem text h = if_due allowed text (ends_or_begins (passes EndItem) (drop (space_length text) text)) _ _ (λ _. no_text allowed LineEnd (space_length text) text refl (space_space text)) (λ _. no_text allowed (Token Break) (line_end_length text) text refl (line_end_space text h))
-line_end_due allowed EndElement text h = if_due allowed text (ends_or_begins (passes EndElement) (drop (space_length text) text)) _ _ (λ _. no_text allowed LineEnd (space_length text) text refl (space_space text)) (λ _. no_text allowed (Token Break) (line_end_length text) text refl (line_end_space text h))
+line_end_expected : (allowed : Allowing) (ends : LineEnds) (text : List ℕ) → is_line_end text ≡ true → IsExpectedRead allowed text (line_end ends text)
+line_end_expected allowed Skipped text h = no_text allowed LineEnd (line_end_length text) text refl (line_end_space text h)
+line_end_expected allowed EndItem text h = if_expected allowed text (ends_or_begins (passes EndItem) (drop (space_length text) text)) _ _ (λ _. no_text allowed LineEnd (space_length text) text refl (space_space text)) (λ _. no_text allowed (Token Break) (line_end_length text) text refl (line_end_space text h))
+line_end_expected allowed EndElement text h = if_expected allowed text (ends_or_begins (passes EndElement) (drop (space_length text) text)) _ _ (λ _. no_text allowed LineEnd (space_length text) text refl (space_space text)) (λ _. no_text allowed (Token Break) (line_end_length text) text refl (line_end_space text h))
 
-plain_due : (allowed : Allowing) (current : Mode) (text : List ℕ) → IsDueRead allowed text (token_read current text) → IsDueRead allowed text (plain_piece current text)
-plain_due allowed current text h =
-    if_due allowed text (begins is_blank text) _ _
+plain_expected : (allowed : Allowing) (current : Mode) (text : List ℕ) → IsExpectedRead allowed text (token_read current text) → IsExpectedRead allowed text (plain_piece current text)
+plain_expected allowed current text h =
+    if_expected allowed text (begins is_blank text) _ _
     (λ _. no_text allowed Gap (prefix_len is_blank text) text refl (blanks_space text))
-    (λ _. if_due allowed text (is_line_end text) _ _ (λ e. line_end_due allowed (line_ends current) text e) (λ _. h))
+    (λ _. if_expected allowed text (is_line_end text) _ _ (λ e. line_end_expected allowed (line_ends current) text e) (λ _. h))
 
-piece_due : (current : Mode) (text : List ℕ) → IsDueRead (IsAllowedPiece current text) text (piece_at current text)
-piece_due TableLines text = table_due text
-piece_due current text = plain_due (IsAllowedPiece current text) current text (longest_due (IsAllowedPiece current text) text (token_read current text) (allowed_tells current text) (plain_read current text))
+piece_expected : (current : Mode) (text : List ℕ) → IsExpectedRead (IsAllowedPiece current text) text (piece_at current text)
+piece_expected TableLines text = table_expected text
+piece_expected current text = plain_expected (IsAllowedPiece current text) current text (longest_expected (IsAllowedPiece current text) text (token_read current text) (allowed_tells current text) (plain_read current text))
 
 -- the first piece of a text
 pub expected : (current : Mode) (text : List ℕ) (p : Lexeme) → piece_at current text ≡ Ok p → IsExpectedMode (IsAllowedPiece current text) text p
-expected current text p e = subst (IsDueRead (IsAllowedPiece current text) text) e (piece_due current text)
+expected current text p e = subst (IsExpectedRead (IsAllowedPiece current text) text) e (piece_expected current text)
 
 -- the first piece of a text is the longest that the mode allows there
 pub longest : (current : Mode) (text : List ℕ) (p : Lexeme) → piece_at current text ≡ Ok p → has_text p.piece ≡ true → IsLongest current text p
@@ -771,7 +771,7 @@ longest current text p e h = let most = (expected current text p e).0 h in recor
 
 -- an error means that nothing is allowed there, or the longest that is allowed is no token
 pub refused : (current : Mode) (text : List ℕ) (m : Misread) → piece_at current text ≡ Err m → IsRefusedPiece current text m
-refused current text m e = elim (subst (IsDueRead (IsAllowedPiece current text) text) e (piece_due current text)) [
+refused current text m e = elim (subst (IsExpectedRead (IsAllowedPiece current text) text) e (piece_expected current text)) [
   | inl none ↦ inl none
   | inr found ↦ inr (found.0, record { allowed = found.1.0; longest = found.1.1 }, found.2)
 ]

@@ -21,7 +21,7 @@ use Rattle.gms_lines.specs.Shapes.{Read, longest_label, symbol_read, symbol, quo
 use Rattle.gms_lines.proofs.WithinLemmas.{closed_more}
 use Rattle.gms_lex.specs.Spellings.{IsQuoted, IsUnquotedText, IsText, IsSymbol}
 use Rattle.gms_lex.specs.Longest.{IsUnlawful}
-use Rattle.gms_lex.proofs.PrefixLemmas.{not_both, front_most, front_all, run_over, run_stops, begins_take, begins_front}
+use Rattle.gms_lex.proofs.PrefixLemmas.{not_both, prefix_most, prefix_all, run_over, run_stops, begins_take, begins_prefix}
 use Rattle.gms_lex.proofs.UnquotedLemmas.{unquoted_inner}
 use Rattle.gms_lex.proofs.SymbolLemmas.{is_outside, symbol_length, symbol_outside, IsFirstSymbol, found_first, none_first}
 
@@ -49,10 +49,10 @@ if_longest allowed text false x y p q = q refl
 -- ---- quoted tokens and texts
 
 pub quoted_begins : (n : ℕ) (text : List ℕ) → IsQuoted (take n text) → begins is_quote text ≡ true
-quoted_begins n text h = begins_front is_quote n text (ap (begins is_quote) h.spelled ∙ h.quotes)
+quoted_begins n text h = begins_prefix is_quote n text (ap (begins is_quote) h.spelled ∙ h.quotes)
 
-same_front : (a b : ℕ) (xs ys : List ℕ) → a ∷ xs ≡ b ∷ ys → (a ≡ b) × (xs ≡ ys)
-same_front a b xs ys e = (cc, cc)
+same_prefix : (a b : ℕ) (xs ys : List ℕ) → a ∷ xs ≡ b ∷ ys → (a ≡ b) × (xs ≡ ys)
+same_prefix a b xs ys e = (cc, cc)
 
 -- what is quoted between a mark and its next
 inner_most : (mark n : ℕ) (text inner : List ℕ) → n ≤ length text → list_all (λ b. not (b == mark || b == 10)) inner ≡ true → take n text ≡ inner ++ mark ∷ [] → n ≤ quoted_length mark text + 1
@@ -65,25 +65,25 @@ inner_most mark n text inner le free spelled =
 quoted_most : (mark n : ℕ) (text : List ℕ) → n ≤ length (mark ∷ text) → IsQuoted (take n (mark ∷ text)) → n ≤ quoted_length mark text + 2
 quoted_most mark zero text le h = omega arith
 quoted_most mark (suc n) text le h =
-    let same = same_front mark h.mark (take n text) (h.inner ++ h.mark ∷ []) h.spelled in
+    let same = same_prefix mark h.mark (take n text) (h.inner ++ h.mark ∷ []) h.spelled in
     let free : list_all (λ b. not (b == mark || b == 10)) h.inner ≡ true = subst (λ m. list_all (λ b. not (b == m || b == 10)) h.inner ≡ true) (sym same.0) h.free in
     let spelled : take n text ≡ h.inner ++ mark ∷ [] = same.1 ∙ ap (λ m. h.inner ++ m ∷ []) (sym same.0) in
     omega (arith, inner_most mark n text h.inner (omega arith) free spelled)
 
-one_front : (mark : ℕ) (text : List ℕ) → begins (λ b. b == mark) text ≡ true → take 1 text ≡ mark ∷ []
-one_front mark [] h = not_both false h refl
-one_front mark (b ∷ text) h = let same : b ≡ mark = grind (arith, nat_tests, h) in ap (λ c. c ∷ []) same
+one_prefix : (mark : ℕ) (text : List ℕ) → begins (λ b. b == mark) text ≡ true → take 1 text ≡ mark ∷ []
+one_prefix mark [] h = not_both false h refl
+one_prefix mark (b ∷ text) h = let same : b ≡ mark = grind (arith, nat_tests, h) in ap (λ c. c ∷ []) same
 
 quoted_spelled : (mark : ℕ) (text : List ℕ) → is_quote mark ≡ true → is_closed mark text ≡ true → IsQuoted (take (quoted_length mark text + 2) (mark ∷ text))
 quoted_spelled mark text quote closed =
     let inner : ℕ = quoted_length mark text in
     let long : suc (inner + 1) ≡ inner + 2 = omega arith in
-    let prefix : take (inner + 1) text ≡ take inner text ++ mark ∷ [] = take-add inner 1 text ∙ ap (λ t. take inner text ++ t) (one_front mark (drop inner text) closed) in
+    let prefix : take (inner + 1) text ≡ take inner text ++ mark ∷ [] = take-add inner 1 text ∙ ap (λ t. take inner text ++ t) (one_prefix mark (drop inner text) closed) in
     subst (λ k. IsQuoted (take k (mark ∷ text))) long record {
       mark = mark;
       inner = take inner text;
       quotes = quote;
-      free = front_all (λ b. not (b == mark || b == 10)) text;
+      free = prefix_all (λ b. not (b == mark || b == 10)) text;
       spelled = ap (λ t. mark ∷ t) prefix;
     }
 
@@ -94,7 +94,7 @@ marks_same mark = grind (arith, nat_tests)
 closed_by : (mark n : ℕ) (text : List ℕ) → IsQuoted (take n (mark ∷ text)) → is_closed mark text ≡ true
 closed_by mark zero text h = absurd (omega (arith, ap length h.spelled))
 closed_by mark (suc n) text h =
-    let same = same_front mark h.mark (take n text) (h.inner ++ h.mark ∷ []) h.spelled in
+    let same = same_prefix mark h.mark (take n text) (h.inner ++ h.mark ∷ []) h.spelled in
     let free : list_all (λ b. not (b == mark || b == 10)) h.inner ≡ true = subst (λ m. list_all (λ b. not (b == m || b == 10)) h.inner ≡ true) (sym same.0) h.free in
     let spelled : take n text ≡ h.inner ++ mark ∷ [] = same.1 ∙ ap (λ m. h.inner ++ m ∷ []) (sym same.0) in
     let following : List ℕ = drop n text in
@@ -152,8 +152,8 @@ pub symbol_longest : (allowed : Allowing) (text : List ℕ) → ((s : Sym) (n : 
 unfolding longest_symbol
 symbol_longest allowed text may others = symbol_of_longest allowed text (find (λ s. begins_with_word text (written_symbol s)) symbols) refl may others
 
-pub symbol_front : (s : Sym) (n : ℕ) (text : List ℕ) → IsSymbol s (take n text) → begins is_outside text ≡ true
-symbol_front s n text h = begins_front is_outside n text (symbol_outside s (take n text) h)
+pub symbol_prefix : (s : Sym) (n : ℕ) (text : List ℕ) → IsSymbol s (take n text) → begins is_outside text ≡ true
+symbol_prefix s n text h = begins_prefix is_outside n text (symbol_outside s (take n text) h)
 
 -- ---- descriptive texts
 
@@ -171,7 +171,7 @@ no_text_run text plain none n le (inl q) = not_both (begins is_quote text) (quot
 no_text_run text plain none n le (inr u) =
     let run : prefix_len is_text_byte text ≡ 0 = grind (arith, nat_tests, none) in
     let long : 0 < n = omega (arith, u.0, length-take-le n text le) in
-    absurd (omega (arith, run, long, front_most is_text_byte n text le u.2))
+    absurd (omega (arith, run, long, prefix_most is_text_byte n text le u.2))
 
 pub remark_longest : (allowed : Allowing) (text : List ℕ) → ((n : ℕ) → IsText (take n text) → allowed Remark n) → ((other : Piece) (n : ℕ) → n ≤ length text → allowed other n → IsText (take n text)) → IsLongestRead allowed text (remark text)
 remark_longest allowed text may others =
@@ -185,10 +185,10 @@ remark_longest allowed text may others =
     (λ none. inl (λ other n le h. no_text_run text plain none n le (others other n le h)))
     (λ some.
     let long : 0 < run = some_from_test run some in
-    let here : IsUnquotedText (take run text) = (omega (arith, long, length-prefix_len is_text_byte text), begins_take is_quote run text long ∙ plain, front_all is_text_byte text) in (
+    let here : IsUnquotedText (take run text) = (omega (arith, long, length-prefix_len is_text_byte text), begins_take is_quote run text long ∙ plain, prefix_all is_text_byte text) in (
       may run (inr here),
       λ other n le h. elim (others other n le h) [
         | inl q ↦ not_both (begins is_quote text) (quoted_begins n text q) plain
-        | inr u ↦ front_most is_text_byte n text le u.2
+        | inr u ↦ prefix_most is_text_byte n text le u.2
       ],
     )))

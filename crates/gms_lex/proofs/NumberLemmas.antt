@@ -14,7 +14,7 @@ use Rattle.gms_lines.specs.Numbers.{digit_count, begins_dot, begins_number, poin
 use Rattle.gms_lines.proofs.WithinLemmas.{run_within}
 use Rattle.gms_lex.specs.Spellings.{AreSomeDigits, IsPoint, IsPower, IsExponentSpelling, IsNumberSpelling}
 use Rattle.gms_lex.proofs.LineTextLemmas.{length-take_most}
-use Rattle.gms_lex.proofs.PrefixLemmas.{not_both, front_all, run_over, run_stops, begins_append}
+use Rattle.gms_lex.proofs.PrefixLemmas.{not_both, prefix_all, run_over, run_stops, begins_append}
 
 digit_no_sign : (b : ℕ) → is_ascii_digit b ≡ true → is_sign b ≡ false
 digit_no_sign b h = grind (arith, nat_tests, h)
@@ -151,7 +151,7 @@ digits_begin (b ∷ text) h =
     subst (λ v. begins is_ascii_digit (take (cond v (1 + prefix_len is_ascii_digit text) 0) (b ∷ text)) ≡ true) (sym h) here
 
 digits_some : (text : List ℕ) → begins is_ascii_digit text ≡ true → AreSomeDigits (take (digit_count text) text)
-digits_some text some = (digits_begin text some, front_all is_ascii_digit text)
+digits_some text some = (digits_begin text some, prefix_all is_ascii_digit text)
 
 power_plain : (text : List ℕ) → AreSomeDigits text → IsPower text
 power_plain [] h = not_both false h.0 refl
@@ -201,7 +201,7 @@ point_spelled (b ∷ rest) = elim (true_or_false (begins_dot (b ∷ rest) && not
   | inl t ↦
       let both = and_parts (begins_dot (b ∷ rest)) (not (begins_dot rest)) t in
       let long : suc (digit_count rest) ≡ 1 + digit_count rest = omega arith in
-      let here : IsPoint (take (1 + digit_count rest) (b ∷ rest)) = subst (λ k. IsPoint (take k (b ∷ rest))) long (point_is b both.0, front_all is_ascii_digit rest) in
+      let here : IsPoint (take (1 + digit_count rest) (b ∷ rest)) = subst (λ k. IsPoint (take k (b ∷ rest))) long (point_is b both.0, prefix_all is_ascii_digit rest) in
       subst (λ v. IsPoint (take (if v then 1 + digit_count rest else 0) (b ∷ rest))) (sym t) here
   | inr f ↦ subst (λ v. IsPoint (take (if v then 1 + digit_count rest else 0) (b ∷ rest))) (sym f) tt
 ]
@@ -273,7 +273,7 @@ number_spelled text h =
       point = take p rest;
       exponent = take e more;
       spelled = take-add d e text ∙ ap (λ t. t ++ take e more) (take-add w p text) ∙ append_assoc (take w text) (take p rest) (take e more);
-      digits = front_all is_ascii_digit text;
+      digits = prefix_all is_ascii_digit text;
       fraction = point_spelled rest;
       power = exponent_spelled more;
       some = number_some text h;

@@ -53,15 +53,15 @@ tail_within Set text = remark_within text
 tail_within Scalar text = remark_within text
 tail_within Model text = remark_within text
 
-behind_label_within : (s : Shape) (d : ℕ) (stage : Stage) (text : List ℕ) → IsWithinText text (piece_after_label s d stage text)
-behind_label_within s d stage text =
+after_label_within : (s : Shape) (d : ℕ) (stage : Stage) (text : List ℕ) → IsWithinText text (piece_after_label s d stage text)
+after_label_within s d stage text =
     if_within text (begins is_element_mark text && not (begins_value_dot s d stage text)) _ _ (λ _. symbol_within text) (λ _. if_within text (d == 0) _ _ (λ _. tail_within s text) (λ _. label_token_within text))
 
 in_list_within : (s : Shape) (d : ℕ) (stage : Stage) (text : List ℕ) → IsWithinText text (in_list s d stage text)
 in_list_within s d Fresh text = label_token_within text
 in_list_within s d Expected text = label_token_within text
-in_list_within s d After text = behind_label_within s d After text
-in_list_within s d Spaced text = behind_label_within s d Spaced text
+in_list_within s d After text = after_label_within s d After text
+in_list_within s d Spaced text = after_label_within s d Spaced text
 
 name_within : (text : List ℕ) → IsWithinText text (piece_after_name text)
 name_within text = if_within text (begins (λ b. b == 40 || is_item_mark b) text) _ _ (λ _. symbol_within text) (λ _. remark_within text)

@@ -10,21 +10,21 @@ not_both true h g = absurd (cc)
 not_both false h g = absurd (cc)
 
 -- a prefix whose bytes all pass is no longer than their run
-pub front_most : (test : ℕ → Bool) (n : ℕ) (text : List ℕ) → n ≤ length text → list_all test (take n text) ≡ true → n ≤ prefix_len test text
-front_most test zero text le h = omega arith
-front_most test (suc n) [] le h = absurd (omega arith)
-front_most test (suc n) (b ∷ text) le h =
+pub prefix_most : (test : ℕ → Bool) (n : ℕ) (text : List ℕ) → n ≤ length text → list_all test (take n text) ≡ true → n ≤ prefix_len test text
+prefix_most test zero text le h = omega arith
+prefix_most test (suc n) [] le h = absurd (omega arith)
+prefix_most test (suc n) (b ∷ text) le h =
     let both = and_parts (test b) (list_all test (take n text)) h in
-    subst (λ v. suc n ≤ cond v (1 + prefix_len test text) 0) (sym both.0) (omega (arith, front_most test n text (omega arith) both.1))
+    subst (λ v. suc n ≤ cond v (1 + prefix_len test text) 0) (sym both.0) (omega (arith, prefix_most test n text (omega arith) both.1))
 
-front_cons : (test : ℕ → Bool) (b : ℕ) (text : List ℕ) (n : ℕ) → test b ≡ true → list_all test (take n text) ≡ true → list_all test (take (1 + n) (b ∷ text)) ≡ true
-front_cons test b text n t h = subst (λ k. list_all test (take k (b ∷ text)) ≡ true) (let e : suc n ≡ 1 + n = omega arith in e) (and_from (test b) (list_all test (take n text)) t h)
+prefix_cons : (test : ℕ → Bool) (b : ℕ) (text : List ℕ) (n : ℕ) → test b ≡ true → list_all test (take n text) ≡ true → list_all test (take (1 + n) (b ∷ text)) ≡ true
+prefix_cons test b text n t h = subst (λ k. list_all test (take k (b ∷ text)) ≡ true) (let e : suc n ≡ 1 + n = omega arith in e) (and_from (test b) (list_all test (take n text)) t h)
 
 -- a run of bytes that pass passes
-pub front_all : (test : ℕ → Bool) (text : List ℕ) → list_all test (take (prefix_len test text) text) ≡ true
-front_all test [] = refl
-front_all test (b ∷ text) = elim (true_or_false (test b)) [
-  | inl t ↦ subst (λ v. list_all test (take (cond v (1 + prefix_len test text) 0) (b ∷ text)) ≡ true) (sym t) (front_cons test b text (prefix_len test text) t (front_all test text))
+pub prefix_all : (test : ℕ → Bool) (text : List ℕ) → list_all test (take (prefix_len test text) text) ≡ true
+prefix_all test [] = refl
+prefix_all test (b ∷ text) = elim (true_or_false (test b)) [
+  | inl t ↦ subst (λ v. list_all test (take (cond v (1 + prefix_len test text) 0) (b ∷ text)) ≡ true) (sym t) (prefix_cons test b text (prefix_len test text) t (prefix_all test text))
   | inr f ↦ subst (λ v. list_all test (take (cond v (1 + prefix_len test text) 0) (b ∷ text)) ≡ true) (sym f) refl
 ]
 
@@ -47,10 +47,10 @@ begins_take test (suc n) [] some = refl
 begins_take test (suc n) (b ∷ text) some = refl
 
 -- if a prefix passes the test at its start, so does the text
-pub begins_front : (test : ℕ → Bool) (n : ℕ) (text : List ℕ) → begins test (take n text) ≡ true → begins test text ≡ true
-begins_front test zero text h = cc
-begins_front test (suc n) [] h = h
-begins_front test (suc n) (b ∷ text) h = h
+pub begins_prefix : (test : ℕ → Bool) (n : ℕ) (text : List ℕ) → begins test (take n text) ≡ true → begins test text ≡ true
+begins_prefix test zero text h = cc
+begins_prefix test (suc n) [] h = h
+begins_prefix test (suc n) (b ∷ text) h = h
 
 -- if a text passes the test at its start, it does with more after it
 pub begins_append : (test : ℕ → Bool) (text following : List ℕ) → begins test text ≡ true → begins test (text ++ following) ≡ true

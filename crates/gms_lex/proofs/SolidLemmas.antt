@@ -68,16 +68,16 @@ quote_byte : (b : ℕ) → is_quote b ≡ true → (b < 128) × IsSolidByte b
 quote_byte b h = (grind (arith, nat_tests, h), (differs is_quote b 9 h refl, differs is_quote b 10 h refl, differs is_quote b 13 h refl, differs is_quote b 32 h refl))
 
 -- a byte past the end of a text reads as 0
-byte_behind : (text : List ℕ) (k : ℕ) → length text ≤ k → get_or text k 0 ≡ 0
-byte_behind [] k le = refl
-byte_behind (b ∷ text) zero le = absurd (omega arith)
-byte_behind (b ∷ text) (suc k) le = byte_behind text k (omega arith)
+byte_after : (text : List ℕ) (k : ℕ) → length text ≤ k → get_or text k 0 ≡ 0
+byte_after [] k le = refl
+byte_after (b ∷ text) zero le = absurd (omega arith)
+byte_after (b ∷ text) (suc k) le = byte_after text k (omega arith)
 
 -- a text of which each byte is of ASCII
 ascii_of : (text : List ℕ) → ((k : ℕ) → k < length text → get_or text k 0 < 128) → IsAscii text
 ascii_of text each k = elim (below_or k (length text)) [
   | inl lt ↦ each k lt
-  | inr ge ↦ subst (λ b. b < 128) (sym (byte_behind text k ge)) (omega arith)
+  | inr ge ↦ subst (λ b. b < 128) (sym (byte_after text k ge)) (omega arith)
 ]
 
 plain_byte : (b : ℕ) → is_ascii b ≡ true → b < 128
@@ -87,7 +87,7 @@ plain_byte b h = grind (arith, nat_tests, h)
 no_feed_of : (text : List ℕ) → ((k : ℕ) → k < length text → get_or text k 0 ≡ 10 → ⊥) → (k : ℕ) → get_or text k 0 ≡ 10 → ⊥
 no_feed_of text each k h = elim (below_or k (length text)) [
   | inl lt ↦ each k lt h
-  | inr ge ↦ let z : ◌≡◌ {A = ℕ} 0 10 = sym (byte_behind text k ge) ∙ h in let no : ⊥ = omega (arith, z) in no
+  | inr ge ↦ let z : ◌≡◌ {A = ℕ} 0 10 = sym (byte_after text k ge) ∙ h in let no : ⊥ = omega (arith, z) in no
 ]
 
 -- a run of such bytes is solid
@@ -128,13 +128,13 @@ not_feed mark b h e = grind (arith, nat_tests, h, e)
 closed_mark : (mark : ℕ) (rest : List ℕ) {b : ℕ} {more : List ℕ} → begins (λ c. c == mark) rest ≡ true → rest ≡ b ∷ more → b ≡ mark
 closed_mark mark rest {b} {more} h e = let first : (b == mark) ≡ true = sym (ap (begins (λ c. c == mark)) e) ∙ h in grind (arith, nat_tests, first)
 
-ascii_front : (b : ℕ) (text : List ℕ) → b < 128 → ((k : ℕ) → k < length text → get_or text k 0 < 128) → (k : ℕ) → k < length (b ∷ text) → get_or (b ∷ text) k 0 < 128
-ascii_front b text h each zero lt = h
-ascii_front b text h each (suc k) lt = each k (omega arith)
+ascii_prefix : (b : ℕ) (text : List ℕ) → b < 128 → ((k : ℕ) → k < length text → get_or text k 0 < 128) → (k : ℕ) → k < length (b ∷ text) → get_or (b ∷ text) k 0 < 128
+ascii_prefix b text h each zero lt = h
+ascii_prefix b text h each (suc k) lt = each k (omega arith)
 
-feed_front : (b : ℕ) (text : List ℕ) → (b ≡ 10 → ⊥) → ((k : ℕ) → k < length text → get_or text k 0 ≡ 10 → ⊥) → (k : ℕ) → k < length (b ∷ text) → get_or (b ∷ text) k 0 ≡ 10 → ⊥
-feed_front b text h each zero lt = h
-feed_front b text h each (suc k) lt = each k (omega arith)
+feed_prefix : (b : ℕ) (text : List ℕ) → (b ≡ 10 → ⊥) → ((k : ℕ) → k < length text → get_or text k 0 ≡ 10 → ⊥) → (k : ℕ) → k < length (b ∷ text) → get_or (b ∷ text) k 0 ≡ 10 → ⊥
+feed_prefix b text h each zero lt = h
+feed_prefix b text h each (suc k) lt = each k (omega arith)
 
 -- a quoted text of `quoted_length` bytes between its marks
 quoted_solid : (mark : ℕ) (text : List ℕ) → is_quote mark ≡ true → is_closed mark text ≡ true → quoted_length mark text ≤ prefix_len is_ascii (take (quoted_length mark text) text) → IsSolid (mark ∷ take (quoted_length mark text + 1) text)
@@ -160,16 +160,16 @@ quoted_solid mark text quote closed plain =
           (subst (λ b. b < 128) (sym is) is_mark.0, λ h. is_mark.1.1 (sym is ∙ h))
     ] in
     record {
-      ascii = ascii_of (mark ∷ take (inner + 1) text) (ascii_front mark (take (inner + 1) text) is_mark.0 (λ k lt. (each k lt).0));
-      no_feed = no_feed_of (mark ∷ take (inner + 1) text) (feed_front mark (take (inner + 1) text) is_mark.1.1 (λ k lt. (each k lt).1));
+      ascii = ascii_of (mark ∷ take (inner + 1) text) (ascii_prefix mark (take (inner + 1) text) is_mark.0 (λ k lt. (each k lt).0));
+      no_feed = no_feed_of (mark ∷ take (inner + 1) text) (feed_prefix mark (take (inner + 1) text) is_mark.1.1 (λ k lt. (each k lt).1));
       anchor = 0;
       inside = omega arith;
       solid = is_mark.1;
     }
 
 -- the start of a quoted text with both marks
-quoted_front : (mark : ℕ) (text : List ℕ) (inner : ℕ) → take (inner + 2) (mark ∷ text) ≡ mark ∷ take (inner + 1) text
-quoted_front mark text inner = ap (λ n. take n (mark ∷ text)) (let e : inner + 2 ≡ suc (inner + 1) = omega arith in e)
+quoted_prefix : (mark : ℕ) (text : List ℕ) (inner : ℕ) → take (inner + 2) (mark ∷ text) ≡ mark ∷ take (inner + 1) text
+quoted_prefix mark text inner = ap (λ n. take n (mark ∷ text)) (let e : inner + 2 ≡ suc (inner + 1) = omega arith in e)
 
 no_more : (plain inner : ℕ) → nat_lt plain inner ≡ false → inner ≤ plain
 no_more plain inner h = grind (arith, nat_tests, h)
@@ -183,7 +183,7 @@ quoted_text_named (mark ∷ text) quote =
     (λ _. tt)
     (λ closed. if_named (mark ∷ text) (nat_lt plain inner) _ _
     (λ _. tt)
-    (λ h. let solid = quoted_solid mark text quote (not-false _ closed) (no_more plain inner h) in subst (λ t. IsSolid t × (IsAscii t × (begins is_quote t ≡ true))) (sym (quoted_front mark text inner)) (solid, (solid.ascii, quote))))
+    (λ h. let solid = quoted_solid mark text quote (not-false _ closed) (no_more plain inner h) in subst (λ t. IsSolid t × (IsAscii t × (begins is_quote t ≡ true))) (sym (quoted_prefix mark text inner)) (solid, (solid.ascii, quote))))
 
 -- a quoted label
 quoted_label_named : (text : List ℕ) → begins is_quote text ≡ true → IsNamedRead text (quoted (Token Label) text)
@@ -203,7 +203,7 @@ quoted_label_named (mark ∷ text) quote =
     let following = take (inner + 1) text in
     let marks : unquoted (mark ∷ following) ≡ take (length following - 1) following = ap (λ v. if v then take (length following - 1) following else mark ∷ following) quote in
     let few : length (unquoted (mark ∷ following)) ≤ longest_label = omega (arith, ap length marks, length-take_most (length following - 1) following, length-take_most (inner + 1) text) in
-    subst (λ t. IsSolid t × (IsAscii t × (length (unquoted t) ≤ longest_label))) (sym (quoted_front mark text inner)) (solid, (solid.ascii, few)))))
+    subst (λ t. IsSolid t × (IsAscii t × (length (unquoted t) ≤ longest_label))) (sym (quoted_prefix mark text inner)) (solid, (solid.ascii, few)))))
 
 -- a quoted descriptive text is no token
 quoted_remark_named : (text : List ℕ) → IsNamedRead text (quoted Remark text)
@@ -252,27 +252,27 @@ element_tail_named Set text = remark_named text
 element_tail_named Scalar text = remark_named text
 element_tail_named Model text = remark_named text
 
-behind_label_named : (s : Shape) (d : ℕ) (stage : Stage) (text : List ℕ) → IsNamedRead text (piece_after_label s d stage text)
-behind_label_named s d stage text =
+after_label_named : (s : Shape) (d : ℕ) (stage : Stage) (text : List ℕ) → IsNamedRead text (piece_after_label s d stage text)
+after_label_named s d stage text =
     if_named text (begins is_element_mark text && not (begins_value_dot s d stage text)) _ _ (λ _. symbol_named text) (λ _. if_named text (d == 0) _ _ (λ _. element_tail_named s text) (λ _. label_token_named text))
 
 in_list_named : (s : Shape) (d : ℕ) (stage : Stage) (text : List ℕ) → IsNamedRead text (in_list s d stage text)
 in_list_named s d Fresh text = label_token_named text
 in_list_named s d Expected text = label_token_named text
-in_list_named s d After text = behind_label_named s d After text
-in_list_named s d Spaced text = behind_label_named s d Spaced text
+in_list_named s d After text = after_label_named s d After text
+in_list_named s d Spaced text = after_label_named s d Spaced text
 
-behind_name_named : (text : List ℕ) → IsNamedRead text (piece_after_name text)
-behind_name_named text = if_named text (begins (λ b. b == 40 || is_item_mark b) text) _ _ (λ _. symbol_named text) (λ _. remark_named text)
+after_name_named : (text : List ℕ) → IsNamedRead text (piece_after_name text)
+after_name_named text = if_named text (begins (λ b. b == 40 || is_item_mark b) text) _ _ (λ _. symbol_named text) (λ _. remark_named text)
 
-behind_domain_named : (text : List ℕ) → IsNamedRead text (piece_after_domain text)
-behind_domain_named text = if_named text (begins is_item_mark text) _ _ (λ _. symbol_named text) (λ _. remark_named text)
+after_domain_named : (text : List ℕ) → IsNamedRead text (piece_after_domain text)
+after_domain_named text = if_named text (begins is_item_mark text) _ _ (λ _. symbol_named text) (λ _. remark_named text)
 
 token_at_named : (current : Mode) (text : List ℕ) → IsNamedRead text (token_read current text)
-token_at_named (Named s) text = behind_name_named text
-token_at_named TableNamed text = behind_name_named text
-token_at_named (Bare s) text = behind_domain_named text
-token_at_named TableBare text = behind_domain_named text
+token_at_named (Named s) text = after_name_named text
+token_at_named TableNamed text = after_name_named text
+token_at_named (Bare s) text = after_domain_named text
+token_at_named TableBare text = after_domain_named text
 token_at_named (Element s d stage) text = in_list_named s d stage text
 token_at_named (Value s) text = code_named Label text (quoted_label_named text)
 token_at_named (Tail s) text = code_named Label text (quoted_label_named text)

@@ -45,39 +45,39 @@ folded_long [] (y ∷ ys) h = cc
 folded_long (x ∷ xs) [] h = cc
 folded_long (x ∷ xs) (y ∷ ys) h = omega (arith, folded_long xs ys (and_parts _ _ h).1)
 
-front_outside : (c : ℕ) (rest text : List ℕ) → to_ascii_lowercase c ≡ c → is_outside c ≡ true → str_eq_ignore_ascii_case text (c ∷ rest) ≡ true → begins is_outside text ≡ true
-front_outside c rest [] low out h = cc
-front_outside c rest (b ∷ text) low out h =
+prefix_outside : (c : ℕ) (rest text : List ℕ) → to_ascii_lowercase c ≡ c → is_outside c ≡ true → str_eq_ignore_ascii_case text (c ∷ rest) ≡ true → begins is_outside text ≡ true
+prefix_outside c rest [] low out h = cc
+prefix_outside c rest (b ∷ text) low out h =
     let first : (to_ascii_lowercase b == to_ascii_lowercase c) ≡ true = (and_parts _ _ h).0 in
     let same : b ≡ c = lower_same b c out (ap (λ k. to_ascii_lowercase b == k) (sym low) ∙ first) in
     ap is_outside same ∙ out
 
 -- a symbol begins with neither a letter, nor a digit, nor a quotation mark
 pub symbol_outside : (s : Sym) (text : List ℕ) → IsSymbol s text → begins is_outside text ≡ true
-symbol_outside EqE text h = front_outside 61 (101 ∷ 61 ∷ []) text refl refl h
-symbol_outside EqL text h = front_outside 61 (108 ∷ 61 ∷ []) text refl refl h
-symbol_outside EqG text h = front_outside 61 (103 ∷ 61 ∷ []) text refl refl h
-symbol_outside EqN text h = front_outside 61 (110 ∷ 61 ∷ []) text refl refl h
-symbol_outside Power text h = front_outside 42 (42 ∷ []) text refl refl h
-symbol_outside DotDot text h = front_outside 46 (46 ∷ []) text refl refl h
-symbol_outside LessEq text h = front_outside 60 (61 ∷ []) text refl refl h
-symbol_outside GreaterEq text h = front_outside 62 (61 ∷ []) text refl refl h
-symbol_outside NotEq text h = front_outside 60 (62 ∷ []) text refl refl h
-symbol_outside PlusPlus text h = front_outside 43 (43 ∷ []) text refl refl h
-symbol_outside MinusMinus text h = front_outside 45 (45 ∷ []) text refl refl h
-symbol_outside Plus text h = front_outside 43 [] text refl refl h
-symbol_outside Minus text h = front_outside 45 [] text refl refl h
-symbol_outside Star text h = front_outside 42 [] text refl refl h
-symbol_outside Slash text h = front_outside 47 [] text refl refl h
-symbol_outside Equals text h = front_outside 61 [] text refl refl h
-symbol_outside Less text h = front_outside 60 [] text refl refl h
-symbol_outside Greater text h = front_outside 62 [] text refl refl h
-symbol_outside LeftParen text h = front_outside 40 [] text refl refl h
-symbol_outside RightParen text h = front_outside 41 [] text refl refl h
-symbol_outside Comma text h = front_outside 44 [] text refl refl h
-symbol_outside Semicolon text h = front_outside 59 [] text refl refl h
-symbol_outside Dot text h = front_outside 46 [] text refl refl h
-symbol_outside Dollar text h = front_outside 36 [] text refl refl h
+symbol_outside EqE text h = prefix_outside 61 (101 ∷ 61 ∷ []) text refl refl h
+symbol_outside EqL text h = prefix_outside 61 (108 ∷ 61 ∷ []) text refl refl h
+symbol_outside EqG text h = prefix_outside 61 (103 ∷ 61 ∷ []) text refl refl h
+symbol_outside EqN text h = prefix_outside 61 (110 ∷ 61 ∷ []) text refl refl h
+symbol_outside Power text h = prefix_outside 42 (42 ∷ []) text refl refl h
+symbol_outside DotDot text h = prefix_outside 46 (46 ∷ []) text refl refl h
+symbol_outside LessEq text h = prefix_outside 60 (61 ∷ []) text refl refl h
+symbol_outside GreaterEq text h = prefix_outside 62 (61 ∷ []) text refl refl h
+symbol_outside NotEq text h = prefix_outside 60 (62 ∷ []) text refl refl h
+symbol_outside PlusPlus text h = prefix_outside 43 (43 ∷ []) text refl refl h
+symbol_outside MinusMinus text h = prefix_outside 45 (45 ∷ []) text refl refl h
+symbol_outside Plus text h = prefix_outside 43 [] text refl refl h
+symbol_outside Minus text h = prefix_outside 45 [] text refl refl h
+symbol_outside Star text h = prefix_outside 42 [] text refl refl h
+symbol_outside Slash text h = prefix_outside 47 [] text refl refl h
+symbol_outside Equals text h = prefix_outside 61 [] text refl refl h
+symbol_outside Less text h = prefix_outside 60 [] text refl refl h
+symbol_outside Greater text h = prefix_outside 62 [] text refl refl h
+symbol_outside LeftParen text h = prefix_outside 40 [] text refl refl h
+symbol_outside RightParen text h = prefix_outside 41 [] text refl refl h
+symbol_outside Comma text h = prefix_outside 44 [] text refl refl h
+symbol_outside Semicolon text h = prefix_outside 59 [] text refl refl h
+symbol_outside Dot text h = prefix_outside 46 [] text refl refl h
+symbol_outside Dollar text h = prefix_outside 36 [] text refl refl h
 
 digit_no_dot : (d : ℕ) → is_ascii_digit d ≡ true → (to_ascii_lowercase d == 46) ≡ true → ⊥
 digit_no_dot d digit h =
@@ -125,35 +125,35 @@ point_symbol s (suc (suc n)) (b ∷ d ∷ text) le dot digit h =
 -- ---- the longest
 
 -- a symbol is in a list
-abbrev Stands : Sym → List Sym → Type 0
-Stands s [] = ⊥
-Stands s (x ∷ xs) = (x ≡ s) ⊎ Stands s xs
+abbrev Occurs : Sym → List Sym → Type 0
+Occurs s [] = ⊥
+Occurs s (x ∷ xs) = (x ≡ s) ⊎ Occurs s xs
 
-each_stands : (s : Sym) → Stands s symbols
-each_stands EqE = inl refl
-each_stands EqL = inr (inl refl)
-each_stands EqG = inr (inr (inl refl))
-each_stands EqN = inr (inr (inr (inl refl)))
-each_stands Power = inr (inr (inr (inr (inl refl))))
-each_stands DotDot = inr (inr (inr (inr (inr (inl refl)))))
-each_stands LessEq = inr (inr (inr (inr (inr (inr (inl refl))))))
-each_stands GreaterEq = inr (inr (inr (inr (inr (inr (inr (inl refl)))))))
-each_stands NotEq = inr (inr (inr (inr (inr (inr (inr (inr (inl refl))))))))
-each_stands PlusPlus = inr (inr (inr (inr (inr (inr (inr (inr (inr (inl refl)))))))))
-each_stands MinusMinus = inr (inr (inr (inr (inr (inr (inr (inr (inr (inr (inl refl))))))))))
-each_stands Plus = inr (inr (inr (inr (inr (inr (inr (inr (inr (inr (inr (inl refl)))))))))))
-each_stands Minus = inr (inr (inr (inr (inr (inr (inr (inr (inr (inr (inr (inr (inl refl))))))))))))
-each_stands Star = inr (inr (inr (inr (inr (inr (inr (inr (inr (inr (inr (inr (inr (inl refl)))))))))))))
-each_stands Slash = inr (inr (inr (inr (inr (inr (inr (inr (inr (inr (inr (inr (inr (inr (inl refl))))))))))))))
-each_stands Equals = inr (inr (inr (inr (inr (inr (inr (inr (inr (inr (inr (inr (inr (inr (inr (inl refl)))))))))))))))
-each_stands Less = inr (inr (inr (inr (inr (inr (inr (inr (inr (inr (inr (inr (inr (inr (inr (inr (inl refl))))))))))))))))
-each_stands Greater = inr (inr (inr (inr (inr (inr (inr (inr (inr (inr (inr (inr (inr (inr (inr (inr (inr (inl refl)))))))))))))))))
-each_stands LeftParen = inr (inr (inr (inr (inr (inr (inr (inr (inr (inr (inr (inr (inr (inr (inr (inr (inr (inr (inl refl))))))))))))))))))
-each_stands RightParen = inr (inr (inr (inr (inr (inr (inr (inr (inr (inr (inr (inr (inr (inr (inr (inr (inr (inr (inr (inl refl)))))))))))))))))))
-each_stands Comma = inr (inr (inr (inr (inr (inr (inr (inr (inr (inr (inr (inr (inr (inr (inr (inr (inr (inr (inr (inr (inl refl))))))))))))))))))))
-each_stands Semicolon = inr (inr (inr (inr (inr (inr (inr (inr (inr (inr (inr (inr (inr (inr (inr (inr (inr (inr (inr (inr (inr (inl refl)))))))))))))))))))))
-each_stands Dot = inr (inr (inr (inr (inr (inr (inr (inr (inr (inr (inr (inr (inr (inr (inr (inr (inr (inr (inr (inr (inr (inr (inl refl))))))))))))))))))))))
-each_stands Dollar = inr (inr (inr (inr (inr (inr (inr (inr (inr (inr (inr (inr (inr (inr (inr (inr (inr (inr (inr (inr (inr (inr (inr (inl refl)))))))))))))))))))))))
+each_occurs : (s : Sym) → Occurs s symbols
+each_occurs EqE = inl refl
+each_occurs EqL = inr (inl refl)
+each_occurs EqG = inr (inr (inl refl))
+each_occurs EqN = inr (inr (inr (inl refl)))
+each_occurs Power = inr (inr (inr (inr (inl refl))))
+each_occurs DotDot = inr (inr (inr (inr (inr (inl refl)))))
+each_occurs LessEq = inr (inr (inr (inr (inr (inr (inl refl))))))
+each_occurs GreaterEq = inr (inr (inr (inr (inr (inr (inr (inl refl)))))))
+each_occurs NotEq = inr (inr (inr (inr (inr (inr (inr (inr (inl refl))))))))
+each_occurs PlusPlus = inr (inr (inr (inr (inr (inr (inr (inr (inr (inl refl)))))))))
+each_occurs MinusMinus = inr (inr (inr (inr (inr (inr (inr (inr (inr (inr (inl refl))))))))))
+each_occurs Plus = inr (inr (inr (inr (inr (inr (inr (inr (inr (inr (inr (inl refl)))))))))))
+each_occurs Minus = inr (inr (inr (inr (inr (inr (inr (inr (inr (inr (inr (inr (inl refl))))))))))))
+each_occurs Star = inr (inr (inr (inr (inr (inr (inr (inr (inr (inr (inr (inr (inr (inl refl)))))))))))))
+each_occurs Slash = inr (inr (inr (inr (inr (inr (inr (inr (inr (inr (inr (inr (inr (inr (inl refl))))))))))))))
+each_occurs Equals = inr (inr (inr (inr (inr (inr (inr (inr (inr (inr (inr (inr (inr (inr (inr (inl refl)))))))))))))))
+each_occurs Less = inr (inr (inr (inr (inr (inr (inr (inr (inr (inr (inr (inr (inr (inr (inr (inr (inl refl))))))))))))))))
+each_occurs Greater = inr (inr (inr (inr (inr (inr (inr (inr (inr (inr (inr (inr (inr (inr (inr (inr (inr (inl refl)))))))))))))))))
+each_occurs LeftParen = inr (inr (inr (inr (inr (inr (inr (inr (inr (inr (inr (inr (inr (inr (inr (inr (inr (inr (inl refl))))))))))))))))))
+each_occurs RightParen = inr (inr (inr (inr (inr (inr (inr (inr (inr (inr (inr (inr (inr (inr (inr (inr (inr (inr (inr (inl refl)))))))))))))))))))
+each_occurs Comma = inr (inr (inr (inr (inr (inr (inr (inr (inr (inr (inr (inr (inr (inr (inr (inr (inr (inr (inr (inr (inl refl))))))))))))))))))))
+each_occurs Semicolon = inr (inr (inr (inr (inr (inr (inr (inr (inr (inr (inr (inr (inr (inr (inr (inr (inr (inr (inr (inr (inr (inl refl)))))))))))))))))))))
+each_occurs Dot = inr (inr (inr (inr (inr (inr (inr (inr (inr (inr (inr (inr (inr (inr (inr (inr (inr (inr (inr (inr (inr (inr (inl refl))))))))))))))))))))))
+each_occurs Dollar = inr (inr (inr (inr (inr (inr (inr (inr (inr (inr (inr (inr (inr (inr (inr (inr (inr (inr (inr (inr (inr (inr (inr (inl refl)))))))))))))))))))))))
 
 -- how many bytes a symbol takes
 abbrev pub symbol_length : Sym → ℕ
@@ -169,7 +169,7 @@ abbrev longer_first : List Sym → Bool
 longer_first [] = true
 longer_first (x ∷ xs) = at_most (symbol_length x) xs && longer_first xs
 
-at_most_each : (n : ℕ) (xs : List Sym) (s : Sym) → at_most n xs ≡ true → Stands s xs → symbol_length s ≤ n
+at_most_each : (n : ℕ) (xs : List Sym) (s : Sym) → at_most n xs ≡ true → Occurs s xs → symbol_length s ≤ n
 at_most_each n [] s h there = absurd there
 at_most_each n (x ∷ xs) s h (inl e) =
     let first : nat_le (symbol_length x) n ≡ true = (and_parts (nat_le (symbol_length x) n) (at_most n xs) h).0 in
@@ -178,7 +178,7 @@ at_most_each n (x ∷ xs) s h (inl e) =
 at_most_each n (x ∷ xs) s h (inr there) = at_most_each n xs s (and_parts (nat_le (symbol_length x) n) (at_most n xs) h).1 there
 
 -- what is found first in such a list is no shorter than any that passes
-found_longest : (test : Sym → Bool) (xs : List Sym) (x s : Sym) → longer_first xs ≡ true → find test xs ≡ Some x → Stands s xs → test s ≡ true → symbol_length s ≤ symbol_length x
+found_longest : (test : Sym → Bool) (xs : List Sym) (x s : Sym) → longer_first xs ≡ true → find test xs ≡ Some x → Occurs s xs → test s ≡ true → symbol_length s ≤ symbol_length x
 found_longest test [] x s sorted found there passes = absurd there
 found_longest test (y ∷ ys) x s sorted found there passes = elim (true_or_false (test y)) [
   | inl t ↦
@@ -200,8 +200,8 @@ found_longest test (y ∷ ys) x s sorted found there passes = elim (true_or_fals
 ]
 
 -- a symbol that is a prefix of a text is one with which it begins
-front_begins : (s : Sym) (n : ℕ) (text : List ℕ) → n ≤ length text → IsSymbol s (take n text) → (n ≡ symbol_length s) × (begins_with_word text (written_symbol s) ≡ true)
-front_begins s n text le h =
+prefix_begins : (s : Sym) (n : ℕ) (text : List ℕ) → n ≤ length text → IsSymbol s (take n text) → (n ≡ symbol_length s) × (begins_with_word text (written_symbol s) ≡ true)
+prefix_begins s n text le h =
     let long : n ≡ symbol_length s = omega (arith, folded_long (take n text) (written_symbol s) h, length-take-le n text le) in
     let fits : nat_le (symbol_length s) (length text) ≡ true = grind (arith, nat_tests, long, le) in
     (long, and_from (nat_le (symbol_length s) (length text)) (str_eq_ignore_ascii_case (take (symbol_length s) text) (written_symbol s)) fits (subst (λ k. str_eq_ignore_ascii_case (take k text) (written_symbol s) ≡ true) long h))
@@ -222,12 +222,12 @@ pub found_first : (text : List ℕ) (found : Sym) → find (λ s. begins_with_wo
 found_first text found e = record {
   spelled = (and_parts (nat_le (symbol_length found) (length text)) (str_eq_ignore_ascii_case (take (symbol_length found) text) (written_symbol found)) (found_passes (λ s. begins_with_word text (written_symbol s)) symbols found e)).1;
   longest = λ s n le h.
-      let begin = front_begins s n text le h in
-      let most : symbol_length s ≤ symbol_length found = found_longest (λ s. begins_with_word text (written_symbol s)) symbols found s refl e (each_stands s) begin.1 in
+      let begin = prefix_begins s n text le h in
+      let most : symbol_length s ≤ symbol_length found = found_longest (λ s. begins_with_word text (written_symbol s)) symbols found s refl e (each_occurs s) begin.1 in
       omega (arith, begin.0, most);
 }
 
-found_none : (test : Sym → Bool) (xs : List Sym) (s : Sym) → find test xs ≡ None → Stands s xs → test s ≡ true → ⊥
+found_none : (test : Sym → Bool) (xs : List Sym) (s : Sym) → find test xs ≡ None → Occurs s xs → test s ≡ true → ⊥
 found_none test [] s h there passes = absurd there
 found_none test (y ∷ ys) s h there passes = elim (true_or_false (test y)) [
   | inl t ↦ let found : Some y ≡ None = ap (λ v. cond v (Some y) (find test ys)) (sym t) ∙ h in absurd (cc)
@@ -239,4 +239,4 @@ found_none test (y ∷ ys) s h there passes = elim (true_or_false (test y)) [
 
 -- where none is found, the text begins with none
 pub none_first : (text : List ℕ) → find (λ s. begins_with_word text (written_symbol s)) symbols ≡ None → (s : Sym) (n : ℕ) → n ≤ length text → IsSymbol s (take n text) → ⊥
-none_first text e s n le h = found_none (λ s. begins_with_word text (written_symbol s)) symbols s e (each_stands s) (front_begins s n text le h).1
+none_first text e s n le h = found_none (λ s. begins_with_word text (written_symbol s)) symbols s e (each_occurs s) (prefix_begins s n text le h).1

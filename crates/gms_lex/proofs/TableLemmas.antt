@@ -11,7 +11,7 @@ use Rattle.gms_lines.specs.Lines.{put_first, lines, is_blank, is_line_end, befor
 use Rattle.gms_lines.specs.LineFaults.{longest_line, is_control_byte, is_bad, IsInLines, IsLineFault}
 use Rattle.gms_lines.proofs.LineLemmas.{true_or_false, below_or, before_stops, before_more, before-le-length}
 use Rattle.gms_lines.proofs.FirstLemmas.{length-read_as}
-use Rattle.gms_lex.proofs.LineTextLemmas.{HasFeed, AreEnded, lines-ended, joined, joined-lines, byte_blanked, on_line, behind_line}
+use Rattle.gms_lex.proofs.LineTextLemmas.{HasFeed, AreEnded, lines-ended, joined, joined-lines, byte_blanked, on_line, after_line}
 
 -- the first n bytes of a text, all ASCII, come before its first line end, and one of them is not
 -- blank
@@ -90,15 +90,15 @@ bytes_end (b ∷ c ∷ text) zero (inr h) = return_ends b c h.0 h.1
 bytes_end (b ∷ text) (suc k) h = bytes_end text k h
 
 -- a byte past the end of a text reads as 0
-none_behind : (text : List ℕ) (k : ℕ) → length text ≤ k → get_or text k 0 ≡ 0
-none_behind [] k le = refl
-none_behind (b ∷ text) zero le = absurd (omega arith)
-none_behind (b ∷ text) (suc k) le = none_behind text k (omega arith)
+none_after : (text : List ℕ) (k : ℕ) → length text ≤ k → get_or text k 0 ≡ 0
+none_after [] k le = refl
+none_after (b ∷ text) zero le = absurd (omega arith)
+none_after (b ∷ text) (suc k) le = none_after text k (omega arith)
 
 -- a byte of a line end stays where the line is read
 byte_kept : (class : Class) (line rest : List ℕ) (k c : ℕ) → blanked c ≡ c → 0 < c → get_or line k 0 ≡ c → get_or (read_as class line ++ rest) k 0 ≡ c
 byte_kept class line rest k c same some h = elim (below_or k (length line)) [
-  | inr ge ↦ let no : ⊥ = omega (arith, h, none_behind line k ge, some) in absurd no
+  | inr ge ↦ let no : ⊥ = omega (arith, h, none_after line k ge, some) in absurd no
   | inl below ↦ get_or_append_left (read_as class line) rest 0 k (omega (arith, length-read_as class line, below)) ∙ in_line class below
 ] where
   in_line : (class : Class) → k < length line → get_or (read_as class line) k 0 ≡ c
@@ -199,8 +199,8 @@ in_lines start inside (line ∷ others) lo n ended fed sound t =
     let long : length read ≡ length line = length-read_as class line in
     elim (below_or lo (length line)) [
       | inr ge ↦
-          let code_is : drop lo (read ++ rest) ≡ drop (lo - length line) rest = behind_line read rest lo (length line) long ge in
-          let source_is : drop lo (line ++ joined others) ≡ drop (lo - length line) (joined others) = behind_line line (joined others) lo (length line) refl ge in
+          let code_is : drop lo (read ++ rest) ≡ drop (lo - length line) rest = after_line read rest lo (length line) long ge in
+          let source_is : drop lo (line ++ joined others) ≡ drop (lo - length line) (joined others) = after_line line (joined others) lo (length line) refl ge in
           let following = in_lines (start + length line) (inside_after inside line) others (lo - length line) n ended.1 fed.1 (λ fault h. sound fault (inr h)) (subst (IsTableText n) code_is t) in
           (ap (take n) code_is ∙ following.0 ∙ sym (ap (take n) source_is), following.1)
       | inl below ↦

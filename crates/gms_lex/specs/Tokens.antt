@@ -87,7 +87,7 @@ pub record IsTokens (source : List ℕ) (tokens : List Token) : Type 0 where
 pub record IsLexFault (source : List ℕ) (fault : LexFault) : Type 0 where
   pub byte : ℕ
   pub at : fault.at ≡ place_of_byte source byte
-  pub stands : IsByteFault source record { at = byte; error = fault.error }
+  pub occurs : IsByteFault source record { at = byte; error = fault.error }
   pub first : (other : ByteFault) → IsByteFault source other → IsBefore record { at = byte; error = fault.error } other
 
 -- the meaning of a source for a reader of tokens: its tokens, or its first fault

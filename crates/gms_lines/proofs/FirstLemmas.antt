@@ -18,8 +18,8 @@ use Rattle.gms_lines.specs.InnerLineSearch.{fault_at, good_length, head_error, f
 use Rattle.gms_lines.proofs.LineLemmas.{true_or_false, below_or, before-le-length}
 
 -- the fault is in a line that begins at this byte
-abbrev pub StandsInLine : ℕ → Bool → List ℕ → List (List ℕ) → ByteFault → Type 0
-StandsInLine start inside line others fault = (k : ℕ) × (fault.at ≡ start + k) × IsLineError inside line others k fault.error
+abbrev pub OccursInLine : ℕ → Bool → List ℕ → List (List ℕ) → ByteFault → Type 0
+OccursInLine start inside line others fault = (k : ℕ) × (fault.at ≡ start + k) × IsLineError inside line others k fault.error
 
 -- each number is at least that of a bad byte
 least_code : (e : LexError) → 1 ≤ lex_error_code e
@@ -69,8 +69,8 @@ true_both : (a b : Bool) → a ≡ true → b ≡ false → (a && not b) ≡ tru
 true_both a b h g = grind arith
 
 -- the error found for the first byte is an error of the line there
-head_stands : (inside : Bool) (line : List ℕ) (others : List (List ℕ)) (e : LexError) → head_error inside line others ≡ Some e → IsLineError inside line others 0 e
-head_stands inside line others e h =
+head_occurs : (inside : Bool) (line : List ℕ) (others : List (List ℕ)) (e : LexError) → head_error inside line others ≡ Some e → IsLineError inside line others 0 e
+head_occurs inside line others e h =
     elim (head_is (opens inside line && not (list_any closes others)) (nat_lt longest_line (length (content line))) (is_unknown_control (class_of inside line) line) e h) [
       | inl p ↦ let both = both_true (opens inside line) (list_any closes others) p.0 in subst (IsLineError inside line others 0) (sym p.1) (refl, both.0, both.1)
       | inr q ↦ elim q [
@@ -96,12 +96,12 @@ record Searched (inside : Bool) (line : List ℕ) (others : List (List ℕ)) (go
   within : good ≤ length (content line)
   clean : (k : ℕ) → IsLineError inside line others k BadByte → good ≤ k
   bad : good < length (content line) → IsLineError inside line others good BadByte
-  stands : (e : LexError) → found ≡ Some e → IsLineError inside line others 0 e
+  occurs : (e : LexError) → found ≡ Some e → IsLineError inside line others 0 e
   least : (k : ℕ) (e : LexError) → IsLineError inside line others k e → (e ≡ BadByte) ⊎ ((k ≡ 0) × AtMost found (lex_error_code e))
 
 -- a fault is either a bad byte after the good ones, or at the first byte, with a number no less
 -- than that of the error found there
-fault_cases : (start : ℕ) (inside : Bool) (line : List ℕ) (others : List (List ℕ)) (good : ℕ) (found : Option LexError) → Searched inside line others good found → (f : ByteFault) → StandsInLine start inside line others f → ((k : ℕ) × (f.at ≡ start + k) × (good ≤ k) × (k < length (content line)) × (lex_error_code f.error ≡ 1)) ⊎ ((f.at ≡ start) × AtMost found (lex_error_code f.error))
+fault_cases : (start : ℕ) (inside : Bool) (line : List ℕ) (others : List (List ℕ)) (good : ℕ) (found : Option LexError) → Searched inside line others good found → (f : ByteFault) → OccursInLine start inside line others f → ((k : ℕ) × (f.at ≡ start + k) × (good ≤ k) × (k < length (content line)) × (lex_error_code f.error ≡ 1)) ⊎ ((f.at ≡ start) × AtMost found (lex_error_code f.error))
 fault_cases start inside line others good found s f (k, at, h) = elim (s.least k f.error h) [
   | inl e ↦ let bad : IsLineError inside line others k BadByte = subst (IsLineError inside line others k) e h in inl (k, at, s.clean k bad, bad.0, ap lex_error_code e)
   | inr p ↦ inr (omega (arith, p.0, at), p.1)
@@ -118,13 +118,13 @@ before_or : (a b x y : ℕ) → a ≤ b → x ≤ y → (a < b) ⊎ ((a ≡ b) �
 before_or a b x y le small = elim (below_or a b) [ inl h ↦ inl h | inr h ↦ inr (omega arith, small) ]
 
 -- where each byte is good
-first_clean : (start : ℕ) (inside : Bool) (line : List ℕ) (others : List (List ℕ)) (good : ℕ) (found : Option LexError) → Searched inside line others good found → good ≡ length (content line) → IsFirstFault (StandsInLine start inside line others) (option_map (fault_at start) found)
+first_clean : (start : ℕ) (inside : Bool) (line : List ℕ) (others : List (List ℕ)) (good : ℕ) (found : Option LexError) → Searched inside line others good found → good ≡ length (content line) → IsFirstFault (OccursInLine start inside line others) (option_map (fault_at start) found)
 first_clean start inside line others good None s all = λ f h. elim (fault_cases start inside line others good None s f h) [
   | inl (k, at, ge, lt, code) ↦ absurd (omega arith)
   | inr p ↦ none_found _ p.1
 ]
 first_clean start inside line others good (Some e) s all = (
-  (0, omega arith, s.stands e refl),
+  (0, omega arith, s.occurs e refl),
   λ f h. elim (fault_cases start inside line others good (Some e) s f h) [
     | inl (k, at, ge, lt, code) ↦ absurd (omega arith)
     | inr p ↦ inr (sym p.0, found_code e _ p.1)
@@ -132,7 +132,7 @@ first_clean start inside line others good (Some e) s all = (
 )
 
 -- where the first byte is bad
-first_at_once : (start : ℕ) (inside : Bool) (line : List ℕ) (others : List (List ℕ)) (good : ℕ) (found : Option LexError) → Searched inside line others good found → good < length (content line) → good ≡ 0 → IsFirstFault (StandsInLine start inside line others) (Some (fault_at start BadByte))
+first_at_once : (start : ℕ) (inside : Bool) (line : List ℕ) (others : List (List ℕ)) (good : ℕ) (found : Option LexError) → Searched inside line others good found → good < length (content line) → good ≡ 0 → IsFirstFault (OccursInLine start inside line others) (Some (fault_at start BadByte))
 first_at_once start inside line others good found s more zero = (
   (0, omega arith, subst (λ k. IsLineError inside line others k BadByte) zero (s.bad more)),
   λ f h. elim (fault_cases start inside line others good found s f h) [
@@ -142,7 +142,7 @@ first_at_once start inside line others good found s more zero = (
 )
 
 -- where a later byte is bad
-first_later : (start : ℕ) (inside : Bool) (line : List ℕ) (others : List (List ℕ)) (good : ℕ) (found : Option LexError) → Searched inside line others good found → good < length (content line) → 0 < good → IsFirstFault (StandsInLine start inside line others) (option_or (option_map (fault_at start) found) (Some (fault_at (start + good) BadByte)))
+first_later : (start : ℕ) (inside : Bool) (line : List ℕ) (others : List (List ℕ)) (good : ℕ) (found : Option LexError) → Searched inside line others good found → good < length (content line) → 0 < good → IsFirstFault (OccursInLine start inside line others) (option_or (option_map (fault_at start) found) (Some (fault_at (start + good) BadByte)))
 first_later start inside line others good None s more some = (
   (good, refl, s.bad more),
   λ f h. elim (fault_cases start inside line others good None s f h) [
@@ -151,7 +151,7 @@ first_later start inside line others good None s more some = (
   ],
 )
 first_later start inside line others good (Some e) s more some = (
-  (0, omega arith, s.stands e refl),
+  (0, omega arith, s.occurs e refl),
   λ f h. elim (fault_cases start inside line others good (Some e) s f h) [
     | inl (k, at, ge, lt, code) ↦ inl (omega arith)
     | inr p ↦ inr (sym p.0, found_code e _ p.1)
@@ -159,9 +159,9 @@ first_later start inside line others good (Some e) s more some = (
 )
 
 -- the first of a line's errors, by what is known
-first_of_line-first : (start : ℕ) (inside : Bool) (line : List ℕ) (others : List (List ℕ)) (good : ℕ) (found : Option LexError) → Searched inside line others good found → IsFirstFault (StandsInLine start inside line others) (first_of_line start good (length (content line)) found)
+first_of_line-first : (start : ℕ) (inside : Bool) (line : List ℕ) (others : List (List ℕ)) (good : ℕ) (found : Option LexError) → Searched inside line others good found → IsFirstFault (OccursInLine start inside line others) (first_of_line start good (length (content line)) found)
 first_of_line-first start inside line others good found s =
-    let first = IsFirstFault (StandsInLine start inside line others) in
+    let first = IsFirstFault (OccursInLine start inside line others) in
     let all = length (content line) in
     let now = option_map (fault_at start) found in
     let later = option_or now (Some (fault_at (start + good) BadByte)) in
@@ -179,7 +179,7 @@ not_true : (b : Bool) → not b ≡ true → b ≡ true → ⊥
 not_true true h g = let z : ⊥ = cc in z
 not_true false h g = let z : ⊥ = cc in z
 
-first_in_line-first : (start : ℕ) (inside : Bool) (line : List ℕ) (others : List (List ℕ)) → IsFirstFault (StandsInLine start inside line others) (first_in_line start inside line others)
+first_in_line-first : (start : ℕ) (inside : Bool) (line : List ℕ) (others : List (List ℕ)) → IsFirstFault (OccursInLine start inside line others) (first_in_line start inside line others)
 first_in_line-first start inside line others =
     let class = class_of inside line in
     let found : Searched inside line others (good_length class (content line)) (head_error inside line others) = record {
@@ -189,7 +189,7 @@ first_in_line-first start inside line others =
         | inl lt ↦ absurd (not_true _ (prefix_len_passes (λ b. not (is_bad class b)) (content line) k 0 lt) h.1)
       ];
       bad = λ more. (more, not-false _ (prefix_len_stops (λ b. not (is_bad class b)) (content line) 0 more));
-      stands = head_stands inside line others;
+      occurs = head_occurs inside line others;
       least = head_least inside line others;
     } in
     first_of_line-first start inside line others _ _ found
@@ -221,20 +221,20 @@ error_within inside line others k OpenQuote some h = absurd h
 error_within inside line others k LongLabel some h = absurd h
 
 -- an error of lines is at their first byte or after it
-stands_behind : (start : ℕ) (inside : Bool) (ls : List (List ℕ)) (f : ByteFault) → IsInLines start inside ls f → start ≤ f.at
-stands_behind start inside [] f h = absurd h
-stands_behind start inside (line ∷ others) f (inl (k, at, h)) = omega arith
-stands_behind start inside (line ∷ others) f (inr h) = omega (arith, stands_behind (start + length line) (inside_after inside line) others f h)
+occurs_after : (start : ℕ) (inside : Bool) (ls : List (List ℕ)) (f : ByteFault) → IsInLines start inside ls f → start ≤ f.at
+occurs_after start inside [] f h = absurd h
+occurs_after start inside (line ∷ others) f (inl (k, at, h)) = omega arith
+occurs_after start inside (line ∷ others) f (inr h) = omega (arith, occurs_after (start + length line) (inside_after inside line) others f h)
 
 -- the first error of a line, or else of those after it, is the first of all
-first_joined : (start : ℕ) (inside : Bool) (line : List ℕ) (others : List (List ℕ)) (a b : Option ByteFault) → 0 < length line → IsFirstFault (StandsInLine start inside line others) a → IsFirstFault (IsInLines (start + length line) (inside_after inside line) others) b → IsFirstFault (IsInLines start inside (line ∷ others)) (option_or a b)
+first_joined : (start : ℕ) (inside : Bool) (line : List ℕ) (others : List (List ℕ)) (a b : Option ByteFault) → 0 < length line → IsFirstFault (OccursInLine start inside line others) a → IsFirstFault (IsInLines (start + length line) (inside_after inside line) others) b → IsFirstFault (IsInLines start inside (line ∷ others)) (option_or a b)
 first_joined start inside line others None None some p q = λ f h. elim h [ inl g ↦ p f g | inr g ↦ q f g ]
 first_joined start inside line others None (Some y) some p q = (inr q.0, λ f h. elim h [ inl g ↦ absurd (p f g) | inr g ↦ q.1 f g ])
 first_joined start inside line others (Some x) b some p q = (
   inl p.0,
   λ f h. elim h [
     | inl g ↦ p.1 f g
-    | inr g ↦ inl (omega (arith, p.0.1, error_within inside line others p.0.0 x.error some p.0.2, stands_behind (start + length line) (inside_after inside line) others f g))
+    | inr g ↦ inl (omega (arith, p.0.1, error_within inside line others p.0.0 x.error some p.0.2, occurs_after (start + length line) (inside_after inside line) others f g))
   ],
 )
 
@@ -291,11 +291,11 @@ total-lines (b ∷ text) = elim (true_or_false (b == 10)) [
   | inr h ↦ ap (λ v. total (if v then (b ∷ []) ∷ lines text else put_first b (lines text))) h ∙ omega (arith, total-put_first b (lines text), total-lines text)
 ]
 
-stands_within : (start : ℕ) (inside : Bool) (ls : List (List ℕ)) (f : ByteFault) → AreSome ls → IsInLines start inside ls f → f.at < start + total ls
-stands_within start inside [] f some h = absurd h
-stands_within start inside (line ∷ others) f some (inl (k, at, h)) = omega (arith, error_within inside line others k f.error some.0 h)
-stands_within start inside (line ∷ others) f some (inr h) = omega (arith, stands_within (start + length line) (inside_after inside line) others f some.1 h)
+occurs_within : (start : ℕ) (inside : Bool) (ls : List (List ℕ)) (f : ByteFault) → AreSome ls → IsInLines start inside ls f → f.at < start + total ls
+occurs_within start inside [] f some h = absurd h
+occurs_within start inside (line ∷ others) f some (inl (k, at, h)) = omega (arith, error_within inside line others k f.error some.0 h)
+occurs_within start inside (line ∷ others) f some (inr h) = omega (arith, occurs_within (start + length line) (inside_after inside line) others f some.1 h)
 
 -- an error of a line is at a byte of the source
 pub fault_within : (source : List ℕ) (f : ByteFault) → IsLineFault source f → f.at < length source
-fault_within source f h = omega (arith, stands_within 0 false (lines source) f (lines-AreSome source) h, total-lines source)
+fault_within source f h = omega (arith, occurs_within 0 false (lines source) f (lines-AreSome source) h, total-lines source)

@@ -28,5 +28,5 @@ IsBefore f g = (f.at < g.at) ⊎ ((f.at ≡ g.at) × (lex_error_code f.error ≤
 
 -- Of these faults, this is the first; or there is none.
 abbrev pub IsFirstFault : (ByteFault → Type 0) → Option ByteFault → Type 0
-IsFirstFault Stands None = (f : ByteFault) → Stands f → ⊥
-IsFirstFault Stands (Some f) = Stands f × ((g : ByteFault) → Stands g → IsBefore f g)
+IsFirstFault Occurs None = (f : ByteFault) → Occurs f → ⊥
+IsFirstFault Occurs (Some f) = Occurs f × ((g : ByteFault) → Occurs g → IsBefore f g)

@@ -8,46 +8,46 @@ use Rattle.gms_fmt.specs.Columns.{IsExtendedByPrefix, Appends}
 use Rattle.gms_fmt.proofs.Appending.{failed, begins_first, begins_second, appended}
 
 -- a text is an old one followed by a prefix of a whole, of which this remains
-pub record Walked (old whole now rest : List ℕ) : Type 0 where
+pub record Traversed (old whole now rest : List ℕ) : Type 0 where
   pub prefix : List ℕ
   pub now_is : now ≡ old ++ prefix
   pub whole_is : prefix ++ rest ≡ whole
 
 -- nothing of the whole was appended yet
-pub traversal : {old whole : List ℕ} (text : List ℕ) → text ≡ whole → Walked old whole old text
+pub traversal : {old whole : List ℕ} (text : List ℕ) → text ≡ whole → Traversed old whole old text
 traversal {old} {whole} text e = record { prefix = []; now_is = sym (append-nil old); whole_is = e }
 
 -- the next piece was appended
-pub step : {old whole now new : List ℕ} (t rest : List ℕ) → Walked old whole now (t ++ rest) → new ≡ now ++ t → Walked old whole new rest
+pub step : {old whole now new : List ℕ} (t rest : List ℕ) → Traversed old whole now (t ++ rest) → new ≡ now ++ t → Traversed old whole new rest
 step {old} {whole} {now} {new} t rest w e =
     record { prefix = w.prefix ++ t; now_is = e ∙ ap (λ x. x ++ t) w.now_is ∙ append_assoc old w.prefix t; whole_is = append_assoc w.prefix t rest ∙ w.whole_is }
 
 -- a prefix of the next piece gives a prefix of the whole
-pub front_of_whole : {old whole now new : List ℕ} (t rest : List ℕ) → Walked old whole now (t ++ rest) → IsExtendedByPrefix now t new → IsExtendedByPrefix old whole new
-front_of_whole {old} {whole} {now} {new} t rest w b =
+pub prefix_of_whole : {old whole now new : List ℕ} (t rest : List ℕ) → Traversed old whole now (t ++ rest) → IsExtendedByPrefix now t new → IsExtendedByPrefix old whole new
+prefix_of_whole {old} {whole} {now} {new} t rest w b =
     subst (λ x. IsExtendedByPrefix old x new) w.whole_is (begins_second old now new w.prefix (t ++ rest) w.now_is (begins_first now new t rest b))
 
 -- the next piece failed
-pub broke : {A E : Type 0} {old whole now new : List ℕ} (result : Result A E) → IsErr result → (t rest : List ℕ) → Walked old whole now (t ++ rest) → IsExtendedByPrefix now t new → Appends result old new whole
-broke {A} {E} {old} {whole} {now} {new} result is t rest w b = failed old new whole result is (front_of_whole t rest w b)
+pub broke : {A E : Type 0} {old whole now new : List ℕ} (result : Result A E) → IsErr result → (t rest : List ℕ) → Traversed old whole now (t ++ rest) → IsExtendedByPrefix now t new → Appends result old new whole
+broke {A} {E} {old} {whole} {now} {new} result is t rest w b = failed old new whole result is (prefix_of_whole t rest w b)
 
 -- a call failed that appends nothing
-pub stop : {A E : Type 0} {old whole now rest : List ℕ} (result : Result A E) → IsErr result → Walked old whole now rest → Appends result old now whole
+pub stop : {A E : Type 0} {old whole now rest : List ℕ} (result : Result A E) → IsErr result → Traversed old whole now rest → Appends result old now whole
 stop {A} {E} {old} {whole} {now} {rest} result is w =
     failed old now whole result is (w.prefix, rest, sym w.whole_is, w.now_is)
 
 -- the last piece was appended, or a prefix of it
-pub last : {A E : Type 0} {old whole now : List ℕ} (new t : List ℕ) (result : Result A E) → Walked old whole now t → Appends result now new t → Appends result old new whole
+pub last : {A E : Type 0} {old whole now : List ℕ} (new t : List ℕ) (result : Result A E) → Traversed old whole now t → Appends result now new t → Appends result old new whole
 last {A} {E} {old} {whole} {now} new t result w h =
     subst (Appends result old new) w.whole_is (appended old now new w.prefix t result w.now_is h)
 
 -- nothing is left
-pub all : {old whole now : List ℕ} → Walked old whole now [] → now ≡ old ++ whole
+pub all : {old whole now : List ℕ} → Traversed old whole now [] → now ≡ old ++ whole
 all {old} {whole} {now} w = w.now_is ∙ ap (λ x. old ++ x) (sym (append-nil w.prefix) ∙ w.whole_is)
 
 -- what remains, written in another way
-pub rest_is : {old whole now rest : List ℕ} (text : List ℕ) → rest ≡ text → Walked old whole now rest → Walked old whole now text
-rest_is {old} {whole} {now} {rest} text e w = subst (Walked old whole now) e w
+pub rest_is : {old whole now rest : List ℕ} (text : List ℕ) → rest ≡ text → Traversed old whole now rest → Traversed old whole now text
+rest_is {old} {whole} {now} {rest} text e w = subst (Traversed old whole now) e w
 
 -- a call that failed before it appended anything
 pub untouched : {A E : Type 0} (old text : List ℕ) (result : Result A E) → IsErr result → Appends result old old text
@@ -71,17 +71,17 @@ pub texts_at : {X Y : Type 0} (f : Y → List ℕ) (v : X → Y) (xs : List X) (
 texts_at f v xs i d h = ap (λ ys. flat_map f (map v ys)) (drop_at xs i d h)
 
 pub loop_step : {X Y : Type 0} {old whole now new : List ℕ} (f : Y → List ℕ) (v : X → Y) (xs : List X) (i : ℕ) (x : X) → i < length xs → x ≡ get_or xs i x →
-    Walked old whole now (flat_map f (map v (drop i xs))) → new ≡ now ++ f (v x) → Walked old whole new (flat_map f (map v (drop (i + 1) xs)))
+    Traversed old whole now (flat_map f (map v (drop i xs))) → new ≡ now ++ f (v x) → Traversed old whole new (flat_map f (map v (drop (i + 1) xs)))
 loop_step f v xs i x h e w a =
     step (f (v x)) _ (rest_is _ (texts_at f v xs i x h ∙ ap (λ y. f (v y) ++ flat_map f (map v (drop (i + 1) xs))) (sym e)) w) a
 
 pub loop_broke : {X Y A E : Type 0} {old whole now new : List ℕ} (f : Y → List ℕ) (v : X → Y) (xs : List X) (i : ℕ) (x : X) → i < length xs → x ≡ get_or xs i x →
-    Walked old whole now (flat_map f (map v (drop i xs))) → (result : Result A E) → IsErr result → IsExtendedByPrefix now (f (v x)) new → Appends result old new whole
+    Traversed old whole now (flat_map f (map v (drop i xs))) → (result : Result A E) → IsErr result → IsExtendedByPrefix now (f (v x)) new → Appends result old new whole
 loop_broke f v xs i x h e w result is b =
     broke result is (f (v x)) _ (rest_is _ (texts_at f v xs i x h ∙ ap (λ y. f (v y) ++ flat_map f (map v (drop (i + 1) xs))) (sym e)) w) b
 
 pub loop_done : {X Y : Type 0} {old whole now : List ℕ} (f : Y → List ℕ) (v : X → Y) (xs : List X) (i : ℕ) → length xs ≤ i →
-    Walked old whole now (flat_map f (map v (drop i xs))) → now ≡ old ++ whole
+    Traversed old whole now (flat_map f (map v (drop i xs))) → now ≡ old ++ whole
 loop_done f v xs i h w = all (rest_is [] (ap (λ ys. flat_map f (map v ys)) (drop_all i xs h)) w)
 
 -- mapping the identity changes nothing
@@ -114,15 +114,15 @@ filter_out p x xs e = ap (λ b. if b then x ∷ filter p xs else filter p xs) e
 
 -- the texts of elements with their places, one element on
 pub placed_step : {X Y : Type 0} {old whole now new : List ℕ} (f : ℕ × Y → List ℕ) (v : X → Y) (xs : List X) (i : ℕ) (x : X) → i < length xs → x ≡ get_or xs i x →
-    Walked old whole now (flat_map f (placed v i xs)) → new ≡ now ++ f (i, v x) → Walked old whole new (flat_map f (placed v (i + 1) xs))
+    Traversed old whole now (flat_map f (placed v i xs)) → new ≡ now ++ f (i, v x) → Traversed old whole new (flat_map f (placed v (i + 1) xs))
 placed_step f v xs i x h e w a = step (f (i, v x)) _ (rest_is _ (ap (flat_map f) (placed_at v xs i x h e)) w) a
 
 pub placed_broke : {X Y A E : Type 0} {old whole now new : List ℕ} (f : ℕ × Y → List ℕ) (v : X → Y) (xs : List X) (i : ℕ) (x : X) → i < length xs → x ≡ get_or xs i x →
-    Walked old whole now (flat_map f (placed v i xs)) → (result : Result A E) → IsErr result → IsExtendedByPrefix now (f (i, v x)) new → Appends result old new whole
+    Traversed old whole now (flat_map f (placed v i xs)) → (result : Result A E) → IsErr result → IsExtendedByPrefix now (f (i, v x)) new → Appends result old new whole
 placed_broke f v xs i x h e w result is b = broke result is (f (i, v x)) _ (rest_is _ (ap (flat_map f) (placed_at v xs i x h e)) w) b
 
 pub placed_end : {X Y : Type 0} {old whole now : List ℕ} (f : ℕ × Y → List ℕ) (v : X → Y) (xs : List X) (i : ℕ) → length xs ≤ i →
-    Walked old whole now (flat_map f (placed v i xs)) → now ≡ old ++ whole
+    Traversed old whole now (flat_map f (placed v i xs)) → now ≡ old ++ whole
 placed_end f v xs i h w = all (rest_is [] (ap (flat_map f) (placed_done v xs i h)) w)
 
 -- ---- the first `left` of those that are kept
@@ -155,18 +155,18 @@ taken_at f q v xs i x left h e =
     ap (λ ys. flat_map f (take left (filter q ys))) (placed_at v xs i x h e) ∙ taken_by f (i, v x) (filter q (placed v (i + 1) xs)) (q (i, v x)) left
 
 pub taken_step : {X Y : Type 0} {old whole now new : List ℕ} (f : ℕ × Y → List ℕ) (q : ℕ × Y → Bool) (v : X → Y) (xs : List X) (i : ℕ) (x : X) (left next : ℕ) → i < length xs → x ≡ get_or xs i x →
-    Walked old whole now (flat_map f (take left (filter q (placed v i xs)))) → new ≡ now ++ while_left (q (i, v x)) left (f (i, v x)) → next ≡ left_after (q (i, v x)) left →
-    Walked old whole new (flat_map f (take next (filter q (placed v (i + 1) xs))))
+    Traversed old whole now (flat_map f (take left (filter q (placed v i xs)))) → new ≡ now ++ while_left (q (i, v x)) left (f (i, v x)) → next ≡ left_after (q (i, v x)) left →
+    Traversed old whole new (flat_map f (take next (filter q (placed v (i + 1) xs))))
 taken_step f q v xs i x left next h e w a n =
     rest_is _ (ap (λ k. flat_map f (take k (filter q (placed v (i + 1) xs)))) (sym n)) (step (while_left (q (i, v x)) left (f (i, v x))) _ (rest_is _ (taken_at f q v xs i x left h e) w) a)
 
 pub taken_broke : {X Y A E : Type 0} {old whole now new : List ℕ} (f : ℕ × Y → List ℕ) (q : ℕ × Y → Bool) (v : X → Y) (xs : List X) (i : ℕ) (x : X) (left : ℕ) → i < length xs → x ≡ get_or xs i x →
-    Walked old whole now (flat_map f (take left (filter q (placed v i xs)))) → (result : Result A E) → IsErr result → IsExtendedByPrefix now (while_left (q (i, v x)) left (f (i, v x))) new → Appends result old new whole
+    Traversed old whole now (flat_map f (take left (filter q (placed v i xs)))) → (result : Result A E) → IsErr result → IsExtendedByPrefix now (while_left (q (i, v x)) left (f (i, v x))) new → Appends result old new whole
 taken_broke f q v xs i x left h e w result is b =
     broke result is (while_left (q (i, v x)) left (f (i, v x))) _ (rest_is _ (taken_at f q v xs i x left h e) w) b
 
 pub taken_end : {X Y : Type 0} {old whole now : List ℕ} (f : ℕ × Y → List ℕ) (q : ℕ × Y → Bool) (v : X → Y) (xs : List X) (i left : ℕ) → length xs ≤ i →
-    Walked old whole now (flat_map f (take left (filter q (placed v i xs)))) → now ≡ old ++ whole
+    Traversed old whole now (flat_map f (take left (filter q (placed v i xs)))) → now ≡ old ++ whole
 taken_end f q v xs i left h w =
     all (rest_is [] (ap (λ ys. flat_map f (take left (filter q ys))) (placed_done v xs i h) ∙ ap (flat_map f) (take_nothing left)) w)
 
@@ -186,15 +186,15 @@ kept_at f q v xs i x h e =
     ap (λ ys. flat_map f (filter q ys)) (placed_at v xs i x h e) ∙ kept_by f (i, v x) (filter q (placed v (i + 1) xs)) (q (i, v x))
 
 pub kept_step : {X Y : Type 0} {old whole now new : List ℕ} (f : ℕ × Y → List ℕ) (q : ℕ × Y → Bool) (v : X → Y) (xs : List X) (i : ℕ) (x : X) → i < length xs → x ≡ get_or xs i x →
-    Walked old whole now (flat_map f (filter q (placed v i xs))) → new ≡ now ++ where_kept (q (i, v x)) (f (i, v x)) → Walked old whole new (flat_map f (filter q (placed v (i + 1) xs)))
+    Traversed old whole now (flat_map f (filter q (placed v i xs))) → new ≡ now ++ where_kept (q (i, v x)) (f (i, v x)) → Traversed old whole new (flat_map f (filter q (placed v (i + 1) xs)))
 kept_step f q v xs i x h e w a = step (where_kept (q (i, v x)) (f (i, v x))) _ (rest_is _ (kept_at f q v xs i x h e) w) a
 
 pub kept_broke : {X Y A E : Type 0} {old whole now new : List ℕ} (f : ℕ × Y → List ℕ) (q : ℕ × Y → Bool) (v : X → Y) (xs : List X) (i : ℕ) (x : X) → i < length xs → x ≡ get_or xs i x →
-    Walked old whole now (flat_map f (filter q (placed v i xs))) → (result : Result A E) → IsErr result → IsExtendedByPrefix now (where_kept (q (i, v x)) (f (i, v x))) new → Appends result old new whole
+    Traversed old whole now (flat_map f (filter q (placed v i xs))) → (result : Result A E) → IsErr result → IsExtendedByPrefix now (where_kept (q (i, v x)) (f (i, v x))) new → Appends result old new whole
 kept_broke f q v xs i x h e w result is b = broke result is (where_kept (q (i, v x)) (f (i, v x))) _ (rest_is _ (kept_at f q v xs i x h e) w) b
 
 pub kept_end : {X Y : Type 0} {old whole now : List ℕ} (f : ℕ × Y → List ℕ) (q : ℕ × Y → Bool) (v : X → Y) (xs : List X) (i : ℕ) → length xs ≤ i →
-    Walked old whole now (flat_map f (filter q (placed v i xs))) → now ≡ old ++ whole
+    Traversed old whole now (flat_map f (filter q (placed v i xs))) → now ≡ old ++ whole
 kept_end f q v xs i h w = all (rest_is [] (ap (λ ys. flat_map f (filter q ys)) (placed_done v xs i h)) w)
 
 -- the texts of those that are kept, as texts of all

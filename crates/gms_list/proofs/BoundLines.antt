@@ -45,8 +45,8 @@ unfit_at n (false ∷ fits) name (step ∷ before) following e all =
     absurd (let fit : step.1 ≡ true = All-head (λ (expected : ExpectedStep). expected.1 ≡ true) step before all in let is : (Check n, false) ≡ step = cc in let unfit : false ≡ step.1 = ap (λ (expected : ExpectedStep). expected.1) is in cc)
 
 -- two pieces after a word
-behind_word : (x a p n : List ℕ) → x ++ ((a ++ p) ++ n) ≡ (x ++ a ++ p) ++ n
-behind_word x a p n = simp append_assoc
+after_word : (x a p n : List ℕ) → x ++ ((a ++ p) ++ n) ≡ (x ++ a ++ p) ++ n
+after_word x a p n = simp append_assoc
 
 module _ {F : Type 0} (value : F → Number) (limit : ℕ) (lp : Lp F) (duals : List Number) where
   steps_are : (with_objective : Bool) → bound_steps value limit with_objective lp duals ≡ checks 0 (fits_over value limit with_objective lp duals)
@@ -77,5 +77,5 @@ module _ {F : Type 0} (value : F → Number) (limit : ℕ) (lp : Lp F) (duals : 
       let at = stopped with_objective name first in
       e
       ∙ ap (λ t. codes "  bound not shown, " ++ (t ++ codes "\n")) (f ∙ ap step_text at.1)
-      ∙ behind_word (codes "  bound not shown, ") (codes "Check part ") (decimal at.0) (10 ∷ [])
+      ∙ after_word (codes "  bound not shown, ") (codes "Check part ") (decimal at.0) (10 ∷ [])
       ∙ lines_are with_objective (Some at.0) (objective_bound value with_objective lp duals) at.2 refl

@@ -24,15 +24,15 @@ lines_other b t e = ap (λ c. if c then (b ∷ []) ∷ lines t else put_first b 
 feed_is_end : (b : ℕ) (t : List ℕ) → (b == 10) ≡ true → is_line_end (b ∷ t) ≡ true
 feed_is_end b t e = ap (λ c. c || (b == 13 && begins (λ c. c == 10) t)) e
 
-behind_end_feed : (b : ℕ) (t : List ℕ) → (b == 10) ≡ true → text_after_end (b ∷ t) ≡ t
-behind_end_feed b t e = ap (λ c. if c then t else (if b == 13 && begins (λ c. c == 10) t then drop 1 t else [])) e
+after_end_feed : (b : ℕ) (t : List ℕ) → (b == 10) ≡ true → text_after_end (b ∷ t) ≡ t
+after_end_feed b t e = ap (λ c. if c then t else (if b == 13 && begins (λ c. c == 10) t then drop 1 t else [])) e
 
-behind_end_return : (b : ℕ) (t : List ℕ) → (b == 10) ≡ false → (b == 13 && begins (λ c. c == 10) t) ≡ true → text_after_end (b ∷ t) ≡ drop 1 t
-behind_end_return b t e f =
+after_end_return : (b : ℕ) (t : List ℕ) → (b == 10) ≡ false → (b == 13 && begins (λ c. c == 10) t) ≡ true → text_after_end (b ∷ t) ≡ drop 1 t
+after_end_return b t e f =
     ap (λ c. if c then t else (if b == 13 && begins (λ c. c == 10) t then drop 1 t else [])) e ∙ ap (λ c. if c then drop 1 t else []) f
 
-behind_end_none : (b : ℕ) (t : List ℕ) → (b == 10) ≡ false → (b == 13 && begins (λ c. c == 10) t) ≡ false → text_after_end (b ∷ t) ≡ []
-behind_end_none b t e f =
+after_end_none : (b : ℕ) (t : List ℕ) → (b == 10) ≡ false → (b == 13 && begins (λ c. c == 10) t) ≡ false → text_after_end (b ∷ t) ≡ []
+after_end_none b t e f =
     ap (λ c. if c then t else (if b == 13 && begins (λ c. c == 10) t then drop 1 t else [])) e ∙ ap (λ c. if c then drop 1 t else []) f
 
 or_second : (a b c : Bool) → a ≡ false → (a || b) ≡ c → b ≡ c
@@ -42,7 +42,7 @@ or_second false b c e f = f
 ended : (b : ℕ) (t : List ℕ) → is_line_end (b ∷ t) ≡ true → map content (lines (b ∷ t)) ≡ [] ∷ map content (lines (text_after_end (b ∷ t)))
 ended b t e =
     either (b == 10) _
-    (λ feed. ap (map content) (lines_feed b t feed) ∙ ap (λ l. l ∷ map content (lines t)) (content_ended b [] (feed_is_end b [] feed)) ∙ ap (λ r. [] ∷ map content (lines r)) (sym (behind_end_feed b t feed)))
+    (λ feed. ap (map content) (lines_feed b t feed) ∙ ap (λ l. l ∷ map content (lines t)) (content_ended b [] (feed_is_end b [] feed)) ∙ ap (λ r. [] ∷ map content (lines r)) (sym (after_end_feed b t feed)))
     (λ other. by_return b t e other (or_second (b == 10) (b == 13 && begins (λ c. c == 10) t) true other e))
   where
     by_return : (b : ℕ) (t : List ℕ) → is_line_end (b ∷ t) ≡ true → (b == 10) ≡ false → (b == 13 && begins (λ c. c == 10) t) ≡ true → map content (lines (b ∷ t)) ≡ [] ∷ map content (lines (text_after_end (b ∷ t)))
@@ -51,7 +51,7 @@ ended b t e =
         let feed : (c == 10) ≡ true = (and_parts (b == 13) (c == 10) f).1 in
         ap (map content) (lines_other b (c ∷ r) other ∙ ap (put_first b) (lines_feed c r feed))
         ∙ ap (λ l. l ∷ map content (lines r)) (content_ended b (c ∷ []) e)
-        ∙ ap (λ r. [] ∷ map content (lines r)) (sym (behind_end_return b (c ∷ r) other f))
+        ∙ ap (λ r. [] ∷ map content (lines r)) (sym (after_end_return b (c ∷ r) other f))
 
 -- the first line of a text that is not empty, by its first byte
 record First (c : ℕ) (t : List ℕ) : Type 0 where
@@ -112,74 +112,74 @@ content_lines (b ∷ t) h = either (is_line_end (b ∷ t)) _
 rest_from : (xs : List ℕ) (k : ℕ) → take (length xs - k) (drop k xs) ≡ drop k xs
 rest_from xs k = take_all (length xs - k) (drop k xs) (omega (arith, length-drop k xs))
 
-pub behind_return : (t : List ℕ) → 2 ≤ length t → get_or t 0 0 ≡ 13 → get_or t 1 0 ≡ 10 → take (length t - 2) (drop 2 t) ≡ text_after_end t
-behind_return [] h e f = absurd (omega (arith, h))
-behind_return (b ∷ []) h e f = absurd (omega (arith, h))
-behind_return (b ∷ (c ∷ t)) h e f =
+pub after_return : (t : List ℕ) → 2 ≤ length t → get_or t 0 0 ≡ 13 → get_or t 1 0 ≡ 10 → take (length t - 2) (drop 2 t) ≡ text_after_end t
+after_return [] h e f = absurd (omega (arith, h))
+after_return (b ∷ []) h e f = absurd (omega (arith, h))
+after_return (b ∷ (c ∷ t)) h e f =
     let other : (b == 10) ≡ false = grind (arith, nat_tests) in
     let both : (b == 13 && c == 10) ≡ true = grind (arith, nat_tests) in
-    rest_from (b ∷ (c ∷ t)) 2 ∙ sym (behind_end_return b (c ∷ t) other both)
+    rest_from (b ∷ (c ∷ t)) 2 ∙ sym (after_end_return b (c ∷ t) other both)
 
-pub behind_feed : (t : List ℕ) → 1 ≤ length t → get_or t 0 0 ≡ 10 → take (length t - 1) (drop 1 t) ≡ text_after_end t
-behind_feed [] h e = absurd (omega (arith, h))
-behind_feed (b ∷ t) h e =
+pub after_feed : (t : List ℕ) → 1 ≤ length t → get_or t 0 0 ≡ 10 → take (length t - 1) (drop 1 t) ≡ text_after_end t
+after_feed [] h e = absurd (omega (arith, h))
+after_feed (b ∷ t) h e =
     let feed : (b == 10) ≡ true = grind (arith, nat_tests) in
-    rest_from (b ∷ t) 1 ∙ sym (behind_end_feed b t feed)
+    rest_from (b ∷ t) 1 ∙ sym (after_end_feed b t feed)
 
-pub behind_nothing : (t : List ℕ) → length t < 1 → [] ≡ text_after_end t
-behind_nothing [] h = refl
-behind_nothing (b ∷ t) h = absurd (omega (arith, h))
+pub after_nothing : (t : List ℕ) → length t < 1 → [] ≡ text_after_end t
+after_nothing [] h = refl
+after_nothing (b ∷ t) h = absurd (omega (arith, h))
 
-pub behind_one : (t : List ℕ) → length t < 2 → get_or t 0 0 ≢ 10 → [] ≡ text_after_end t
-behind_one [] h e = refl
-behind_one (b ∷ []) h e =
-    let other : (b == 10) ≡ false = grind (arith, nat_tests) in sym (behind_end_none b [] other (grind (arith, nat_tests)))
-behind_one (b ∷ (c ∷ t)) h e = absurd (omega (arith, h))
+pub after_one : (t : List ℕ) → length t < 2 → get_or t 0 0 ≢ 10 → [] ≡ text_after_end t
+after_one [] h e = refl
+after_one (b ∷ []) h e =
+    let other : (b == 10) ≡ false = grind (arith, nat_tests) in sym (after_end_none b [] other (grind (arith, nat_tests)))
+after_one (b ∷ (c ∷ t)) h e = absurd (omega (arith, h))
 
-pub behind_other : (t : List ℕ) → get_or t 0 0 ≢ 10 → get_or t 0 0 ≢ 13 → [] ≡ text_after_end t
-behind_other [] e f = refl
-behind_other (b ∷ t) e f =
+pub after_other : (t : List ℕ) → get_or t 0 0 ≢ 10 → get_or t 0 0 ≢ 13 → [] ≡ text_after_end t
+after_other [] e f = refl
+after_other (b ∷ t) e f =
     let other : (b == 10) ≡ false = grind (arith, nat_tests) in
     let no : (b == 13) ≡ false = grind (arith, nat_tests) in
-    sym (behind_end_none b t other (ap (λ x. x && begins (λ c. c == 10) t) no))
+    sym (after_end_none b t other (ap (λ x. x && begins (λ c. c == 10) t) no))
 
-pub behind_lone : (t : List ℕ) → get_or t 0 0 ≢ 10 → get_or t 1 0 ≢ 10 → [] ≡ text_after_end t
-behind_lone [] e f = refl
-behind_lone (b ∷ []) e f =
-    let other : (b == 10) ≡ false = grind (arith, nat_tests) in sym (behind_end_none b [] other (grind (arith, nat_tests)))
-behind_lone (b ∷ (c ∷ t)) e f =
+pub after_lone : (t : List ℕ) → get_or t 0 0 ≢ 10 → get_or t 1 0 ≢ 10 → [] ≡ text_after_end t
+after_lone [] e f = refl
+after_lone (b ∷ []) e f =
+    let other : (b == 10) ≡ false = grind (arith, nat_tests) in sym (after_end_none b [] other (grind (arith, nat_tests)))
+after_lone (b ∷ (c ∷ t)) e f =
     let other : (b == 10) ≡ false = grind (arith, nat_tests) in
     let no : (c == 10) ≡ false = grind (arith, nat_tests) in
-    sym (behind_end_none b (c ∷ t) other (grind (arith, nat_tests)))
+    sym (after_end_none b (c ∷ t) other (grind (arith, nat_tests)))
 
 -- the text after the first line is shorter
 shorter : (t : List ℕ) → length (text_after_end t) ≤ length t
 shorter [] = omega arith
 shorter (b ∷ t) =
     either (b == 10) _
-    (λ e. let l : length (text_after_end (b ∷ t)) ≡ length t = ap length (behind_end_feed b t e) in omega (arith, l))
+    (λ e. let l : length (text_after_end (b ∷ t)) ≡ length t = ap length (after_end_feed b t e) in omega (arith, l))
     (λ e. either (b == 13 && begins (λ c. c == 10) t) _
-    (λ f. let l : length (text_after_end (b ∷ t)) ≡ length (drop 1 t) = ap length (behind_end_return b t e f) in omega (arith, l, length-drop 1 t))
-    (λ f. let l : length (text_after_end (b ∷ t)) ≡ length {A = ℕ} [] = ap length (behind_end_none b t e f) in omega (arith, l)))
+    (λ f. let l : length (text_after_end (b ∷ t)) ≡ length (drop 1 t) = ap length (after_end_return b t e f) in omega (arith, l, length-drop 1 t))
+    (λ f. let l : length (text_after_end (b ∷ t)) ≡ length {A = ℕ} [] = ap length (after_end_none b t e f) in omega (arith, l)))
 
 strictly : (b : ℕ) (t : List ℕ) → length (text_after_end (b ∷ t)) ≤ length t
 strictly b t =
     either (b == 10) _
-    (λ e. let l : length (text_after_end (b ∷ t)) ≡ length t = ap length (behind_end_feed b t e) in omega (arith, l))
+    (λ e. let l : length (text_after_end (b ∷ t)) ≡ length t = ap length (after_end_feed b t e) in omega (arith, l))
     (λ e. either (b == 13 && begins (λ c. c == 10) t) _
-    (λ f. let l : length (text_after_end (b ∷ t)) ≡ length (drop 1 t) = ap length (behind_end_return b t e f) in omega (arith, l, length-drop 1 t))
-    (λ f. let l : length (text_after_end (b ∷ t)) ≡ length {A = ℕ} [] = ap length (behind_end_none b t e f) in omega (arith, l)))
+    (λ f. let l : length (text_after_end (b ∷ t)) ≡ length (drop 1 t) = ap length (after_end_return b t e f) in omega (arith, l, length-drop 1 t))
+    (λ f. let l : length (text_after_end (b ∷ t)) ≡ length {A = ℕ} [] = ap length (after_end_none b t e f) in omega (arith, l)))
 
-pub behind_shorter : (text : List ℕ) (k : ℕ) → 0 < length text → length (text_after_end (take (length text - k) (drop k text))) < length text
-behind_shorter [] k h = absurd (omega (arith, h))
-behind_shorter (b ∷ t) zero h = let e : length (text_after_end (take (length (b ∷ t) - 0) (b ∷ t))) ≡ length (text_after_end (b ∷ t)) = ap (λ x. length (text_after_end x)) (rest_from (b ∷ t) 0) in omega (arith, e, strictly b t)
-behind_shorter (b ∷ t) (suc k) h =
+pub after_shorter : (text : List ℕ) (k : ℕ) → 0 < length text → length (text_after_end (take (length text - k) (drop k text))) < length text
+after_shorter [] k h = absurd (omega (arith, h))
+after_shorter (b ∷ t) zero h = let e : length (text_after_end (take (length (b ∷ t) - 0) (b ∷ t))) ≡ length (text_after_end (b ∷ t)) = ap (λ x. length (text_after_end x)) (rest_from (b ∷ t) 0) in omega (arith, e, strictly b t)
+after_shorter (b ∷ t) (suc k) h =
     let e : length (text_after_end (take (length (b ∷ t) - suc k) (drop (suc k) (b ∷ t)))) ≡ length (text_after_end (drop (suc k) (b ∷ t))) = ap (λ x. length (text_after_end x)) (rest_from (b ∷ t) (suc k)) in
     omega (arith, e, shorter (drop (suc k) (b ∷ t)), length-drop (suc k) (b ∷ t))
 
-pub behind_lines : (text rest : List ℕ) (k : ℕ) → 0 < length text → k ≡ before is_line_end text → rest ≡ text_after_end (take (length text - k) (drop k text)) →
+pub after_lines : (text rest : List ℕ) (k : ℕ) → 0 < length text → k ≡ before is_line_end text → rest ≡ text_after_end (take (length text - k) (drop k text)) →
     map content (lines text) ≡ take k text ∷ map content (lines rest)
-behind_lines text rest k h e f =
+after_lines text rest k h e f =
     content_lines text h ∙ ap (λ n. take n text ∷ map content (lines (text_after_end (drop n text)))) (sym e) ∙ ap (λ r. take k text ∷ map content (lines r)) (sym (f ∙ ap text_after_end (rest_from text k)))
 
 -- a number right in 6 places
@@ -198,4 +198,4 @@ no_lines n (b ∷ t) h = absurd (omega (arith, h))
 -- the first line after its number, and the later lines
 pub next_line : (n : ℕ) (text : List ℕ) (k : ℕ) → 0 < length text → k ≡ before is_line_end text →
     numbered_from n (map content (lines text)) ≡ numbered_line n (take k text) ++ numbered_from (n + 1) (map content (lines (text_after_end (take (length text - k) (drop k text)))))
-next_line n text k h e = ap (numbered_from n) (behind_lines text (text_after_end (take (length text - k) (drop k text))) k h e refl)
+next_line n text k h e = ap (numbered_from n) (after_lines text (text_after_end (take (length text - k) (drop k text))) k h e refl)

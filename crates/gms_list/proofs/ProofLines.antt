@@ -15,8 +15,8 @@ use Rattle.gms_list.specs.Amounts.{line_of}
 use Rattle.gms_list.specs.SolveText.{column_number_lines as column_texts, row_number_lines as row_texts, bound_lines, crossed_line, infeasible_text, step_text, proof_text}
 
 -- four pieces after a line
-four_behind : (w a b c d : List ℕ) → w ++ (a ++ (b ++ (c ++ d))) ≡ w ++ a ++ b ++ c ++ d
-four_behind w a b c d = simp append_assoc
+four_after : (w a b c d : List ℕ) → w ++ (a ++ (b ++ (c ++ d))) ≡ w ++ a ++ b ++ c ++ d
+four_after w a b c d = simp append_assoc
 
 two_lines : (w x p y q n t : List ℕ) → ((w ++ x) ++ (p ++ (y ++ (q ++ n)))) ++ t ≡ w ++ (x ++ p ++ y ++ q ++ n) ++ t
 two_lines w x p y q n t = simp append_assoc
@@ -26,7 +26,7 @@ module _ {F : Type 0} (value : F → Number) (names labels : List (List ℕ)) (l
       codes "PROOF Optimal\n" ++ (column_texts names labels limit (lp_numbers value lp) (codes "level") (map value a) ++ (row_texts names labels limit (lp_numbers value lp) (codes "marginal") (map value b) ++ (column_texts names labels limit (lp_numbers value lp) (codes "marginal") (map value d) ++ bound_lines limit (lp_numbers value lp) (map value b) true)))
       ≡ proof_text names labels limit (lp_numbers value lp) pivots (end_numbers value end)
   optimal_ends levels row_levels duals reduced a b d e f g h =
-      four_behind (codes "PROOF Optimal\n") (column_texts names labels limit (lp_numbers value lp) (codes "level") (map value a)) (row_texts names labels limit (lp_numbers value lp) (codes "marginal") (map value b)) (column_texts names labels limit (lp_numbers value lp) (codes "marginal") (map value d)) (bound_lines limit (lp_numbers value lp) (map value b) true)
+      four_after (codes "PROOF Optimal\n") (column_texts names labels limit (lp_numbers value lp) (codes "level") (map value a)) (row_texts names labels limit (lp_numbers value lp) (codes "marginal") (map value b)) (column_texts names labels limit (lp_numbers value lp) (codes "marginal") (map value d)) (bound_lines limit (lp_numbers value lp) (map value b) true)
       ∙ ap (λ (x : List F). proof_text names labels limit (lp_numbers value lp) pivots (end_numbers value (Optimal x row_levels b d))) f
       ∙ ap (λ (x : List F). proof_text names labels limit (lp_numbers value lp) pivots (end_numbers value (Optimal levels row_levels x d))) g
       ∙ ap (λ (x : List F). proof_text names labels limit (lp_numbers value lp) pivots (end_numbers value (Optimal levels row_levels duals x))) h

@@ -44,9 +44,9 @@ in_places_are d n some small wide =
       spells = spelled-append zeros (decimal n) ∙ ap (λ k. k * 10 ^ length (decimal n) + spelled (decimal n)) (spelled-replicate (d - length (decimal n))) ∙ (let s = m.spells in omega (arith, s));
     }
 
-point_behind : (text : List ℕ) → 0 < length text → codes "." ++ text ≡ with_decimal_point text
-point_behind [] h = absurd (omega arith)
-point_behind (b ∷ bs) h = refl
+point_after : (text : List ℕ) → 0 < length text → codes "." ++ text ≡ with_decimal_point text
+point_after [] h = absurd (omega arith)
+point_after (b ∷ bs) h = refl
 
 tail_of : (d : ℕ) (text : List ℕ) (b : Bool) → (d == 0) ≡ b → (if b then [] else codes "." ++ text) ≡ (if d == 0 then [] else codes "." ++ text)
 tail_of d text b e = ap (λ c. if c then [] else codes "." ++ text) (sym e)
@@ -59,8 +59,8 @@ fixed_without d n e h =
       following = [];
       before_is = numeral_is (n / 10 ^ d) (let q = div-le_self n (10 ^ d) in omega (arith, q));
       after_digits = tt;
-      behind_places = sym none;
-      behind_spells = sym (ap (λ k. n % 10 ^ k) none ∙ (let l = mod-lt n {m = 1} (omega arith) in omega (arith, l)));
+      after_places = sym none;
+      after_spells = sym (ap (λ k. n % 10 ^ k) none ∙ (let l = mod-lt n {m = 1} (omega arith) in omega (arith, l)));
       text_is = ap (λ t. decimal (n / 10 ^ d) ++ t) (sym (tail_of d (in_places d (n % 10 ^ d)) true e));
     }
 
@@ -73,9 +73,9 @@ fixed_with d n e h =
       following = in_places d (n % 10 ^ d);
       before_is = numeral_is (n / 10 ^ d) (let q = div-le_self n (10 ^ d) in omega (arith, q));
       after_digits = p.digits;
-      behind_places = p.places;
-      behind_spells = p.spells;
-      text_is = ap (λ t. decimal (n / 10 ^ d) ++ t) (sym (tail_of d (in_places d (n % 10 ^ d)) false e) ∙ point_behind (in_places d (n % 10 ^ d)) (let l = p.places in omega (arith, l)));
+      after_places = p.places;
+      after_spells = p.spells;
+      text_is = ap (λ t. decimal (n / 10 ^ d) ++ t) (sym (tail_of d (in_places d (n % 10 ^ d)) false e) ∙ point_after (in_places d (n % 10 ^ d)) (let l = p.places in omega (arith, l)));
     }
 
 fixed_is : (d n : ℕ) → n < 10 ^ 64 → IsFixed d n (fixed_text d n)

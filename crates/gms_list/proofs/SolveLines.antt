@@ -18,7 +18,7 @@ use Rattle.gms_list.specs.Amounts.{line_of}
 use Rattle.gms_list.specs.SolveText.{Solution, amount, head_text, rows_listing, columns_listing, solver_status_text, model_status_text, summary_text, solution_text, solution_of, proof_text, solve_text}
 use Rattle.gms_list.specs.InnerSolves.{solution_in, solved_in, status_lines}
 use Rattle.gms_list.proofs.Shapes.{statuses, summary_lines}
-use Rattle.gms_list.proofs.AppendedPieces.{Walked, traversal}
+use Rattle.gms_list.proofs.AppendedPieces.{Traversed, traversal}
 
 -- the numbers of an end count as it does
 status-numbers : {F : Type 0} (value : F → Number) (end : End F) → solve_status (end_numbers value end) ≡ solve_status end
@@ -96,7 +96,7 @@ six a b c d e f = simp append_assoc
 
 -- a solve, before its first piece
 pub solve_begun : {F : Type 0} (names labels : List (List ℕ)) (limit : ℕ) (value : F → Number) (place : ℕ) (s : OwnSolved F) (answer : Answer F) (old : List ℕ) →
-    Walked old (solve_text names labels limit (solved_in value place s) (answer_numbers value answer)) old
+    Traversed old (solve_text names labels limit (solved_in value place s) (answer_numbers value answer)) old
     (head_text names labels limit (solved_in value place s)
     ++ (rows_listing names labels limit (lp_numbers value s.lp.now) s.settings.limrow s.equations.now
     ++ (columns_listing names labels limit (lp_numbers value s.lp.now) s.settings.limcol

@@ -27,7 +27,7 @@ module _ {F : Type 0} (value : F → Number) (answers : List (Answer F)) where
   -- certificate
   pub record IsListableSolve (lp : Lp F) (answer : ℕ) : Type 0 where
     pub formed : IsWellFormed value lp
-    pub stands : IfSome (slice_get answers answer) (λ a. HasProof value lp a.end)
+    pub occurs : IfSome (slice_get answers answer) (λ a. HasProof value lp a.end)
 
   -- an event whose numbers have few enough decimals, or a solve whose answer has a certificate
   abbrev pub IsListable : Event F → Type 0

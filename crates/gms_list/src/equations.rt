@@ -204,7 +204,7 @@ impl Listing {
     }
 
     /// Appends the text after the first rows of an equation, which says how many are left out.
-    fn push_behind_rows(
+    fn push_after_rows(
         &mut self,
         alloc: Global,
         most: usize,
@@ -277,7 +277,7 @@ impl Listing {
     {
         self.push_head(alloc, p, "EQUATION ", equation, "\n")?;
         self.push_rows(alloc, p, lp, equation, most)?;
-        self.push_behind_rows(alloc, most, rows_of(lp.rows.as_slice(), equation))
+        self.push_after_rows(alloc, most, rows_of(lp.rows.as_slice(), equation))
     }
 
     /// Appends the first rows of each equation of the model.

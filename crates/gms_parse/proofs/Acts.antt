@@ -45,7 +45,7 @@ use Rattle.gms_parse.specs.ReadStates.{KindedToken, ReaderState, is_name, new_la
 use Rattle.gms_parse.specs.InnerReadings.{Derivation, GamsPart, Gives, Refuses, Sense, Holds, Has, Starts, Stays, StaysOpen, Ends, Nameless, IsNext, IsLacking, IsOpened, IsGot, IsValue, IsTooLarge, seen_from, kind_of}
 use Rattle.gms_parse.specs.InnerMeanings.{IsNamed, IsWord, IsMethod, IsObjective, IsSuffix, IsShown, AreShown, IsCondition, IsSetting, IsAct, act_view}
 use Rattle.gms_parse.proofs.TokenKinds.{begins, leads_alike, led_first, unled_next}
-use Rattle.gms_parse.proofs.StateLemmas.{is_mute, is_free, mute_after, free_sound, room_for_none}
+use Rattle.gms_parse.proofs.StateLemmas.{is_mute, is_free, mute_after, free_sound, bound_for_none}
 use Rattle.gms_parse.proofs.Steps.{got_by, gives_one, gives_as, gives_both, gives_the, gives_left, gives_right, gives_none, gives_some, by_cause, stuck_as, wrong_as, refuses_first, refuses_second, refuses_the, refuses_left, refuses_right, refuses_some}
 use Rattle.gms_parse.proofs.Nexts.{past, exact_kind, led_next, refuses_lacking, gives_exact, stays_by, plain_stays, stays_same, stays_then, earlier, begun_has, begun_starts, opened, open_starts, close_stays, gives_bracketed, got_inside, refuses_within, refuses_inside, refuses_unclosed}
 use Rattle.gms_parse.proofs.Entering.{number_gives, number_stays, number_refused}
@@ -73,7 +73,7 @@ module _ (reader : Reader) (w : ReaderState) (kind : Terminal) (t : Token) (foll
   pub worded_sound : (limit : ℕ) (fault : SourceFault) → IsFaulty limit reader.source.now w (kind, t) (kind_of (seen_from reader following)) fault → ⊥
   worded_sound limit =
       free_sound limit reader.source.now w kind t (kind_of (seen_from reader following)) (also is_worded is_free refl kind passes) (λ e d. let k = unnamed w kind u in cc)
-      (room_for_none w.labels _ (mute_after reader.source.now w kind t (kind_of (seen_from reader following)) (also is_worded is_mute refl kind passes)).1)
+      (bound_for_none w.labels _ (mute_after reader.source.now w kind t (kind_of (seen_from reader following)) (also is_worded is_mute refl kind passes)).1)
 
 -- a word that is no name of the program
 pub word_got : {limit : ℕ} {reader : Reader} {at following : ℕ} {t : Token} {w : ReaderState} {tables : Tables} (n : IsNext is_worded reader at t following) → Has reader tables w → Nameless w → (x : Word) → x ≡ record { at = t.at; text = token_text reader.source.now t } →
@@ -127,7 +127,7 @@ module _ {reader : Reader} {at following : ℕ} {t : Token} {w : ReaderState} (n
   text_sound limit =
       free_sound limit reader.source.now w n.kind t (kind_of (seen_from reader following)) (also is_text is_free refl n.kind n.passes)
       (λ e d. let passes = n.passes in let other : not (is_text n.kind) ≡ true = also (is_terminal_among (Name ∷ Suffix ∷ [])) (λ kind. not (is_text kind)) refl n.kind ((and_parts _ _ e).0) in cc)
-      (room_for_none w.labels _ (text_new reader.source.now w n.kind t (kind_of (seen_from reader following)) n.passes k))
+      (bound_for_none w.labels _ (text_new reader.source.now w n.kind t (kind_of (seen_from reader following)) n.passes k))
 
   text_stays : {tables : Tables} → Has reader tables w → Stays reader tables w (past reader w n.kind t following)
   text_stays h =
@@ -256,10 +256,10 @@ module _ {F : Type 0} (value : F → Rational) {limit : ℕ} {reader : Reader} {
   setting_word_refused unled r = refuses_the Setting (refuses_second o.gives (refuses_second (gives_exact q refl) (refuses_other unled r)))
 
 -- where a step of a list of settings is looked at by itself
-abbrev pub setting_walk : Reader → Tables → ReaderState
-setting_walk reader tables = record { open_count = reader.unclosed; names = tables.names; labels = tables.labels; before = []; keyword = Option; level = 0 }
+abbrev pub setting_read_state : Reader → Tables → ReaderState
+setting_read_state reader tables = record { open_count = reader.unclosed; names = tables.names; labels = tables.labels; before = []; keyword = Option; level = 0 }
 
-pub has_setting : (reader : Reader) (tables : Tables) → Has reader tables (setting_walk reader tables)
+pub has_setting : (reader : Reader) (tables : Tables) → Has reader tables (setting_read_state reader tables)
 has_setting reader tables = record { holds = record { open_count = refl; names = refl; labels = refl }; level = omega arith }
 
 pub options_got : {F : Type 0} (value : F → Rational) {limit : ℕ} {reader : Reader} {at start next : ℕ} {t : Token} {tables : Tables} {w : ReaderState} {settings : List (Word × SettingNode F)} → IsNext (is Option) reader at t start →
@@ -305,8 +305,8 @@ module _ {limit : ℕ} {source : List ℕ} {p q r : GamsPart} {w : ReaderState} 
   pub refuses_pair : {e : SourceFaultOrMemory} → Refuses limit source (p · q) w ts e → Refuses limit source (p · (q · r)) w ts e
   refuses_pair c = refuses_grouped (refuses_first c)
 
-  pub refuses_behind : {v : ReaderState} {between : List KindedToken} {a : Derivation} {e : SourceFaultOrMemory} → Gives limit source (p · q) w ts a v between → Refuses limit source r v between e → Refuses limit source (p · (q · r)) w ts e
-  refuses_behind g c = refuses_grouped (refuses_second g c)
+  pub refuses_after : {v : ReaderState} {between : List KindedToken} {a : Derivation} {e : SourceFaultOrMemory} → Gives limit source (p · q) w ts a v between → Refuses limit source r v between e → Refuses limit source (p · (q · r)) w ts e
+  refuses_after g c = refuses_grouped (refuses_second g c)
 
 -- ---- solves
 
@@ -350,7 +350,7 @@ module _ {F : Type 0} (value : F → Rational) {limit : ℕ} {reader : Reader} {
 
     module _ {between : ℕ} {method : Word} (u : IsGot limit (IsMethod reader.source.now) (Stays reader mid m.following) (token Using · word) reader middle mid m.following method between) where
       pub aim_refused : {e : SourceFaultOrMemory} → Refuses limit reader.source.now (token Direction · name) u.following (seen_from reader between) e → Refuses limit reader.source.now (the SolveStatement) w (seen_from reader at) e
-      aim_refused r = solve_refused (refuses_left (using_led (seen_from reader middle) led) (refuses_behind u.gives r))
+      aim_refused r = solve_refused (refuses_left (using_led (seen_from reader middle) led) (refuses_after u.gives r))
 
       pub using_solved : {new : Tables} {maximize : Bool} {objective : Named} {next : ℕ} → IsGot limit (IsObjective reader.source.now) (Stays reader new u.following) (token Direction · name) reader between new u.following (maximize, objective) next →
           (act : ActNode F) → act_view value act ≡ solves model method objective maximize → IsGot limit (IsAct value reader.source.now solve_act) (Ends reader new) (the SolveStatement) reader at new w act next
@@ -369,7 +369,7 @@ module _ {F : Type 0} (value : F → Rational) {limit : ℕ} {reader : Reader} {
 
     module _ {between : ℕ} {new : Tables} {maximize : Bool} {objective : Named} (o : IsGot limit (IsObjective reader.source.now) (Stays reader new m.following) (token Direction · name) reader middle new m.following (maximize, objective) between) where
       pub method_refused : {e : SourceFaultOrMemory} → Refuses limit reader.source.now (token Using · word) o.following (seen_from reader between) e → Refuses limit reader.source.now (the SolveStatement) w (seen_from reader at) e
-      method_refused r = solve_refused (refuses_right (using_unled (seen_from reader middle) unled) (led_both (name · token Using · word) o.gives.reads) (refuses_behind o.gives r))
+      method_refused r = solve_refused (refuses_right (using_unled (seen_from reader middle) unled) (led_both (name · token Using · word) o.gives.reads) (refuses_after o.gives r))
 
       pub aim_solved : {method : Word} {next : ℕ} → IsGot limit (IsMethod reader.source.now) (Stays reader new o.following) (token Using · word) reader between new o.following method next →
           (act : ActNode F) → act_view value act ≡ solves model method objective maximize → IsGot limit (IsAct value reader.source.now solve_act) (Ends reader new) (the SolveStatement) reader at new w act next

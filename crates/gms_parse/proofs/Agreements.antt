@@ -20,7 +20,7 @@ use Rattle.gms_parse.specs.InnerReadings.{Optionless, Tableless}
 use Rattle.std.proofs.lemmas.Bool.{not-true, eqb-true}
 use Rattle.gms_grammar.proofs.Basics.{not_true}
 use Rattle.gms_parse.proofs.TokenKinds.{same_kind, begins}
-use Rattle.gms_parse.proofs.StateLemmas.{keyword_after, room_for_none}
+use Rattle.gms_parse.proofs.StateLemmas.{keyword_after, bound_for_none}
 use Rattle.gms_parse.proofs.Ranges.{full_of, lacks_append}
 use Rattle.gms_parse.proofs.Alphabet.{AllPass}
 use Rattle.gms_parse.proofs.Depths.{TextsAbove}
@@ -102,7 +102,7 @@ module _ (limit : ℕ) (source : List ℕ) where
       go true e =
           let lacks : ExceedsTable w.labels (text ∷ []) = subst (λ (ls : List (List ℕ)). ExceedsTable w.labels ls) (new_are ∙ ap (λ b. cond b (text ∷ []) []) e) k in
           (_, inner.many_labels (sym (same_kind Text t.0 e)) (subst (λ (ls : List (List ℕ)). IsFullFor ls text) a.labels (full_of w.labels text lacks)))
-      go false e = absurd (room_for_none w.labels (new_labels source w t ahead) (new_are ∙ ap (λ b. cond b (text ∷ []) []) e) k)
+      go false e = absurd (bound_for_none w.labels (new_labels source w t ahead) (new_are ∙ ap (λ b. cond b (text ∷ []) []) e) k)
   fault_inside w x t ahead h d a fault (in_table e k f) = let n : is_inner t.0 ≡ false = ap is_inner e in cc
   fault_inside w x t ahead h d a fault (without_lines e k f) = let n : is Table w.keyword ≡ true = ap (is Table) k in let m = a.tableless in cc
 

@@ -19,9 +19,9 @@ pub pass_append : (test : Terminal → Bool) (u v : List KindedToken) → AllPas
 pass_append test [] v h k = k
 pass_append test (t ∷ u) v h k = (h.0, pass_append test u v h.1 k)
 
-pub pass_front : (test : Terminal → Bool) (u v : List KindedToken) → AllPass test (u ++ v) → AllPass test u
-pass_front test [] v h = tt
-pass_front test (t ∷ u) v h = (h.0, pass_front test u v h.1)
+pub pass_prefix : (test : Terminal → Bool) (u v : List KindedToken) → AllPass test (u ++ v) → AllPass test u
+pass_prefix test [] v h = tt
+pass_prefix test (t ∷ u) v h = (h.0, pass_prefix test u v h.1)
 
 pub pass_rest : (test : Terminal → Bool) (u v : List KindedToken) → AllPass test (u ++ v) → AllPass test v
 pass_rest test [] v h = h

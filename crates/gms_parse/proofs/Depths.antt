@@ -30,9 +30,9 @@ pub above_append : (least n : ℕ) (u v : List KindedToken) → TextsAbove least
 above_append least n [] v h k = k
 above_append least n (t ∷ u) v h k = (h.0, above_append least (open_after n t.0) u v h.1 k)
 
-pub above_front : (least n : ℕ) (u v : List KindedToken) → TextsAbove least n (u ++ v) → TextsAbove least n u
-above_front least n [] v h = tt
-above_front least n (t ∷ u) v h = (h.0, above_front least (open_after n t.0) u v h.1)
+pub above_prefix : (least n : ℕ) (u v : List KindedToken) → TextsAbove least n (u ++ v) → TextsAbove least n u
+above_prefix least n [] v h = tt
+above_prefix least n (t ∷ u) v h = (h.0, above_prefix least (open_after n t.0) u v h.1)
 
 -- a token that opens and closes nothing, and is no text
 abbrev pub is_level : Terminal → Bool

@@ -42,7 +42,7 @@ use Rattle.gms_expressions.specs.Words.{terminal_of}
 use Rattle.gms_expressions.specs.Outcomes.{kinded_tokens}
 use Rattle.gms_parse.specs.ReadStates.{KindedToken}
 use Rattle.gms_parse.specs.InnerReadings.{Derivation, kind_of}
-use Rattle.gms_parse.proofs.Alphabet.{AllPass, pass_front, only, all_pass}
+use Rattle.gms_parse.proofs.Alphabet.{AllPass, pass_prefix, only, all_pass}
 use Rattle.gms_parse.proofs.Spelled.{lone_as}
 use Rattle.gms_parse.proofs.TokenKinds.{same_kind}
 
@@ -99,27 +99,27 @@ element_tail_goes Set text = remark_goes text
 element_tail_goes Scalar text = remark_goes text
 element_tail_goes Model text = remark_goes text
 
-behind_label_goes : (s : Shape) (d : ℕ) (stage : Stage) (text : List ℕ) → Goes (piece_after_label s d stage text)
-behind_label_goes s d stage text =
+after_label_goes : (s : Shape) (d : ℕ) (stage : Stage) (text : List ℕ) → Goes (piece_after_label s d stage text)
+after_label_goes s d stage text =
     either_goes (begins is_element_mark text && not (begins_value_dot s d stage text)) _ _ (symbol_goes text) (either_goes (d == 0) _ _ (element_tail_goes s text) (label_goes text))
 
 in_list_goes : (s : Shape) (d : ℕ) (stage : Stage) (text : List ℕ) → Goes (in_list s d stage text)
 in_list_goes s d Fresh text = label_goes text
 in_list_goes s d Expected text = label_goes text
-in_list_goes s d After text = behind_label_goes s d After text
-in_list_goes s d Spaced text = behind_label_goes s d Spaced text
+in_list_goes s d After text = after_label_goes s d After text
+in_list_goes s d Spaced text = after_label_goes s d Spaced text
 
-behind_name_goes : (text : List ℕ) → Goes (piece_after_name text)
-behind_name_goes text = either_goes (begins (λ b. b == 40 || is_item_mark b) text) _ _ (symbol_goes text) (remark_goes text)
+after_name_goes : (text : List ℕ) → Goes (piece_after_name text)
+after_name_goes text = either_goes (begins (λ b. b == 40 || is_item_mark b) text) _ _ (symbol_goes text) (remark_goes text)
 
-behind_domain_goes : (text : List ℕ) → Goes (piece_after_domain text)
-behind_domain_goes text = either_goes (begins is_item_mark text) _ _ (symbol_goes text) (remark_goes text)
+after_domain_goes : (text : List ℕ) → Goes (piece_after_domain text)
+after_domain_goes text = either_goes (begins is_item_mark text) _ _ (symbol_goes text) (remark_goes text)
 
 token_goes : (current : Mode) (text : List ℕ) → Goes (token_read current text)
-token_goes (Named s) text = behind_name_goes text
-token_goes TableNamed text = behind_name_goes text
-token_goes (Bare s) text = behind_domain_goes text
-token_goes TableBare text = behind_domain_goes text
+token_goes (Named s) text = after_name_goes text
+token_goes TableNamed text = after_name_goes text
+token_goes (Bare s) text = after_domain_goes text
+token_goes TableBare text = after_domain_goes text
 token_goes (Element s d stage) text = in_list_goes s d stage text
 token_goes (Value s) text = code_goes kind.Label text refl
 token_goes (Tail s) text = code_goes kind.Label text refl
@@ -153,16 +153,16 @@ kind_other k text h = ap not (not_true (is End (terminal_of k text)) (λ e.
     let not_end : is_end_piece (piece.Token kind.End) ≡ false = sym (ap (λ (x : Kind). is_end_piece (piece.Token x)) end) ∙ h in
     cc))
 
-front_other : (source : List ℕ) (at : Place) (p : Piece) (from to : ℕ) (others : List Token) → is_end_piece p ≡ false → AllPass is_other (kinded_tokens source others) → AllPass is_other (kinded_tokens source (token_of_piece at p from to ++ others))
-front_other source at (piece.Token k) from to others h rest = (kind_other k (token_text source (record { kind = k; start = from; end = to; at = at })) h, rest)
-front_other source at piece.Gap from to others h rest = rest
-front_other source at piece.LineEnd from to others h rest = rest
-front_other source at piece.Remark from to others h rest = rest
+prefix_other : (source : List ℕ) (at : Place) (p : Piece) (from to : ℕ) (others : List Token) → is_end_piece p ≡ false → AllPass is_other (kinded_tokens source others) → AllPass is_other (kinded_tokens source (token_of_piece at p from to ++ others))
+prefix_other source at (piece.Token k) from to others h rest = (kind_other k (token_text source (record { kind = k; start = from; end = to; at = at })) h, rest)
+prefix_other source at piece.Gap from to others h rest = rest
+prefix_other source at piece.LineEnd from to others h rest = rest
+prefix_other source at piece.Remark from to others h rest = rest
 
 tokens_other : (source : List ℕ) (from : ℕ) (current : Mode) (text : List ℕ) (pieces : List Lexeme) (last : Mode) → IsMadeOf current text pieces last [] → AllPass is_other (kinded_tokens source (tokens_of source from pieces))
 tokens_other source from current text [] last made = tt
 tokens_other source from current text (p ∷ pieces) last made =
-    front_other source (place_of_byte source from) p.piece from (from + p.length) (tokens_of source (from + p.length) pieces) (subst (λ (x : Read). Goes x) made.0 (piece_goes current text))
+    prefix_other source (place_of_byte source from) p.piece from (from + p.length) (tokens_of source (from + p.length) pieces) (subst (λ (x : Read). Goes x) made.0 (piece_goes current text))
     (tokens_other source (from + p.length) (mode_after current p.piece (take p.length text)) (drop p.length text) pieces last made.1)
 
 -- the last of the tokens is the end, and no other is
@@ -191,7 +191,7 @@ tree_other : (tree : Derivation) → IsTree productions (the Program) tree → A
 tree_other tree k = all_pass (λ n. true) is_other each_known (the Program) tree k refl
 
 pub begins_other : (prefix : List KindedToken) → Begins productions (the Program) prefix → AllPass is_other prefix
-begins_other prefix b = pass_front is_other prefix b.further (subst (λ (u : List KindedToken). AllPass is_other u) b.derives.yields (tree_other b.derives.tree b.derives.is_tree))
+begins_other prefix b = pass_prefix is_other prefix b.further (subst (λ (u : List KindedToken). AllPass is_other u) b.derives.yields (tree_other b.derives.tree b.derives.is_tree))
 
 ends_at_once : (u v rest : List KindedToken) (end : Token) → u ++ (End, end) ∷ [] ≡ v ++ rest → AllPass is_other u → AllPass is_other v → kind_of rest ≡ End → rest ≡ (End, end) ∷ []
 ends_at_once [] [] rest end e h k is_end = sym e

@@ -44,8 +44,8 @@ module _ {reader : Reader} {test : Terminal → Bool} {at following : ℕ} {t : 
   one_left (u ∷ (v ∷ us)) e = cc
 
   -- after a token other than the end there is another token
-  pub more_behind : is End n.kind ≡ false → following < length reader.tokens.now
-  more_behind other = go (seen_from reader following) refl
+  pub more_after : is End n.kind ≡ false → following < length reader.tokens.now
+  more_after other = go (seen_from reader following) refl
     where
       go : (rest : List KindedToken) → seen_from reader following ≡ rest → following < length reader.tokens.now
       go [] e =
@@ -55,8 +55,8 @@ module _ {reader : Reader} {test : Terminal → Bool} {at following : ℕ} {t : 
       go (x ∷ rest) e = let l = sym (length_seen reader following) ∙ ap length e in omega (arith, l)
 
 -- of this kind
-pub behind_within : (kind : Terminal) {reader : Reader} {at following : ℕ} {t : Token} → IsReady reader → (n : IsNext (is kind) reader at t following) → is End kind ≡ false → following < length reader.tokens.now
-behind_within kind ready n other = more_behind ready n (ap (is End) (sym (same_kind kind n.kind n.passes)) ∙ other)
+pub after_within : (kind : Terminal) {reader : Reader} {at following : ℕ} {t : Token} → IsReady reader → (n : IsNext (is kind) reader at t following) → is End kind ≡ false → following < length reader.tokens.now
+after_within kind ready n other = more_after ready n (ap (is End) (sym (same_kind kind n.kind n.passes)) ∙ other)
 
 -- where a part may begin, a token stands
 pub led_within : (part : GamsPart) (reader : Reader) (at : ℕ) → leads productions look_ahead part (seen_from reader at) ≡ true → at < length reader.tokens.now

@@ -32,7 +32,7 @@ use Rattle.gms_parse.specs.ReadStates.{KindedToken, ReaderState, is_name, IsFaul
 use Rattle.gms_parse.specs.InnerReadings.{Gives, Refuses, IsGot, Has, Starts, Stays, IsNext, IsEntered, IsNotEntered, IsTooLarge, IsLacking, IsUnopened, seen_from, kind_of}
 use Rattle.gms_parse.specs.InnerMeanings.{IsNamed, IsSign}
 use Rattle.gms_parse.proofs.TokenKinds.{begins, same_kind}
-use Rattle.gms_parse.proofs.StateLemmas.{is_mute, is_free, mute_after, free_sound, room_for_none}
+use Rattle.gms_parse.proofs.StateLemmas.{is_mute, is_free, mute_after, free_sound, bound_for_none}
 use Rattle.gms_parse.proofs.Steps.{got_by, gives_one, gives_none, gives_some, takes_next, refuses_token, refuses_memory}
 use Rattle.gms_parse.proofs.Nexts.{past, exact, led_next, refuses_lacking, gives_exact, stays_by, plain_stays, stays_same}
 
@@ -47,7 +47,7 @@ name_sound : (limit : ℕ) {reader : Reader} {at following : ℕ} {t : Token} {o
     IsFaulty limit reader.source.now w (n.kind, t) (kind_of (seen_from reader following)) fault → ⊥
 name_sound limit {reader} {following = following} {t = t} {w = w} n s within_bound =
     free_sound limit reader.source.now w n.kind t (kind_of (seen_from reader following)) (also is_named is_free refl n.kind n.passes) (λ e d. within_bound (subst (λ (ns : List (List ℕ)). IsFullFor ns (token_text reader.source.now t)) s.has.holds.names d))
-    (room_for_none w.labels _ (mute_after reader.source.now w n.kind t (kind_of (seen_from reader following)) (also is_named is_mute refl n.kind n.passes)).1)
+    (bound_for_none w.labels _ (mute_after reader.source.now w n.kind t (kind_of (seen_from reader following)) (also is_named is_mute refl n.kind n.passes)).1)
 
 -- a name was entered, and has this number
 pub name_got : {limit : ℕ} {reader : Reader} {at following : ℕ} {t : Token} {old : Tables} {w : ReaderState} (n : IsNext is_named reader at t following) → Starts reader old w → (number : ℕ) (texts : List ℕ) → texts ≡ token_text reader.source.now t → (names : List (List ℕ)) → IsEntered old.names names texts number →
@@ -86,7 +86,7 @@ number_sound : (limit : ℕ) (source : List ℕ) (w : ReaderState) (t : Token) (
 number_sound limit source w t ahead x means fits fault (deep e d) = cc
 number_sound limit source w t ahead x means fits fault (out_of_range e d) = d x means fits
 number_sound limit source w t ahead x means fits fault (many_names e d) = cc
-number_sound limit source w t ahead x means fits fault (many_labels e d) = room_for_none _ _ refl d
+number_sound limit source w t ahead x means fits fault (many_labels e d) = bound_for_none _ _ refl d
 number_sound limit source w t ahead x means fits fault (in_table e d f) = cc
 number_sound limit source w t ahead x means fits fault (without_lines e d f) = cc
 

@@ -21,8 +21,8 @@ use Rattle.gms_parse.specs.Faults.{fault_of_syntax, source_fault}
 use Rattle.gms_parse.specs.ReadStates.{KindedToken, ReaderState, reader_after, reader_after_all, kind_ahead, IsFaulty}
 use Rattle.gms_parse.specs.InnerReadings.{Derivation, Sense, Starts, StaysOpen, Tableless, IsGot, IsStuck, IsWrong, Refuses, seen_from, kind_of}
 use Rattle.gms_parse.proofs.Steps.{refuses_memory}
-use Rattle.gms_parse.proofs.Alphabet.{AllPass, pass_front, pass_rest, only, all_pass}
-use Rattle.gms_parse.proofs.Depths.{TextsAbove, depth_after, above_front, above_rest, is_deep, is_shallow, deep_closes}
+use Rattle.gms_parse.proofs.Alphabet.{AllPass, pass_prefix, pass_rest, only, all_pass}
+use Rattle.gms_parse.proofs.Depths.{TextsAbove, depth_after, above_prefix, above_rest, is_deep, is_shallow, deep_closes}
 use Rattle.gms_parse.proofs.Agreements.{is_inner, Agrees, Agreed, agree, fault_outside}
 use Rattle.gms_parse.proofs.Prefixes.{reads_of, stuck_of, takes_of}
 
@@ -33,9 +33,9 @@ formulas_inner : (n : Nonterminal) → (not (is_formula n) || only is_formula is
 formulas_inner Expression = refl
 formulas_inner _ = refl
 
-open_behind : (source : List ℕ) (w : ReaderState) (u : List KindedToken) (ahead : Terminal) → (reader_after_all source w u ahead).open_count ≡ depth_after w.open_count u
-open_behind source w [] ahead = refl
-open_behind source w (t ∷ u) ahead = open_behind source (reader_after source w t (kind_ahead u ahead)) u ahead
+open_after : (source : List ℕ) (w : ReaderState) (u : List KindedToken) (ahead : Terminal) → (reader_after_all source w u ahead).open_count ≡ depth_after w.open_count u
+open_after source w [] ahead = refl
+open_after source w (t ∷ u) ahead = open_after source (reader_after source w t (kind_ahead u ahead)) u ahead
 
 -- the state that the other crate begins with
 abbrev before : Reader → Tables → inner.ExpressionState
@@ -113,11 +113,11 @@ module _ {reader : Reader} {old : Tables} {w : ReaderState} (n : Nonterminal) (f
       whole : Derivation
       whole = r.stops.begins.derives.tree
 
-      inner_front : AllPass is_inner r.prefix
-      inner_front = pass_front is_inner r.prefix r.stops.begins.further (subst (λ (u : List KindedToken). AllPass is_inner u) r.stops.begins.derives.yields (inner_tokens whole r.stops.begins.derives.is_tree))
+      inner_prefix : AllPass is_inner r.prefix
+      inner_prefix = pass_prefix is_inner r.prefix r.stops.begins.further (subst (λ (u : List KindedToken). AllPass is_inner u) r.stops.begins.derives.yields (inner_tokens whole r.stops.begins.derives.is_tree))
 
       above_all : TextsAbove w.level w.open_count r.prefix
-      above_all = above_front w.level w.open_count r.prefix r.stops.begins.further (subst (λ (u : List KindedToken). TextsAbove w.level w.open_count u) r.stops.begins.derives.yields (above_tokens whole r.stops.begins.derives.is_tree))
+      above_all = above_prefix w.level w.open_count r.prefix r.stops.begins.further (subst (λ (u : List KindedToken). TextsAbove w.level w.open_count u) r.stops.begins.derives.yields (above_tokens whole r.stops.begins.derives.is_tree))
 
       told : (fault : SourceFault) → fault_of_syntax (syntax.Fault found) ≡ answer.Fault fault → source_fault found ≡ fault
       told fault same = cc
@@ -127,18 +127,18 @@ module _ {reader : Reader} {old : Tables} {w : ReaderState} (n : Nonterminal) (f
         prefix = r.prefix;
         rest = r.rest;
         reads = stuck_of n ts r.prefix r.rest r.stops c.needs;
-        are_sound = (agree limit source w (before reader old) r.prefix (kind_of r.rest) inner_front above_all (begin s other) c.are_sound).sound;
+        are_sound = (agree limit source w (before reader old) r.prefix (kind_of r.rest) inner_prefix above_all (begin s other) c.are_sound).sound;
         is = sym is ∙ ap source_fault c.is;
       }
 
       wrong : (fault : SourceFault) → source_fault found ≡ fault → rules.IsFirstFaulty inner.syntax_rule (limit, source) (before reader old) r.prefix (kind_of r.rest) found → IsWrong limit source (the n) w ts fault
       wrong fault is c =
-          let inner_all = subst (λ (u : List KindedToken). AllPass is_inner u) c.parts inner_front in
+          let inner_all = subst (λ (u : List KindedToken). AllPass is_inner u) c.parts inner_prefix in
           let above = subst (λ (u : List KindedToken). TextsAbove w.level w.open_count u) c.parts above_all in
-          let g : Agreed limit source w (before reader old) c.before c.token.0 = agree limit source w (before reader old) c.before c.token.0 (pass_front is_inner c.before (c.token ∷ c.following) inner_all) (above_front w.level w.open_count c.before (c.token ∷ c.following) above) (begin s other) c.are_sound in
+          let g : Agreed limit source w (before reader old) c.before c.token.0 = agree limit source w (before reader old) c.before c.token.0 (pass_prefix is_inner c.before (c.token ∷ c.following) inner_all) (above_prefix w.level w.open_count c.before (c.token ∷ c.following) above) (begin s other) c.are_sound in
           let deep_here = above_rest w.level w.open_count c.before (c.token ∷ c.following) above in
           let level = g.level in
-          let count = open_behind source w c.before c.token.0 in
+          let count = open_after source w c.before c.token.0 in
           record {
             before = c.before;
             token = c.token;

@@ -105,8 +105,8 @@ plain_led ts h = led_more (bracketed (the IndexList)) plain_rest ts refl refl re
 -- ---- an index
 
 -- after a name without a lag
-behind_name : (ts : List KindedToken) → leads productions look_ahead (the Lag) ts ≡ false → Leading (the AfterHeadName) ts [] (the AfterHeadIndex) ts (λ b. node (right b))
-behind_name ts h = record {
+after_name : (ts : List KindedToken) → leads productions look_ahead (the Lag) ts ≡ false → Leading (the AfterHeadName) ts [] (the AfterHeadIndex) ts (λ b. node (right b))
+after_name ts h = record {
   reads = λ a following r. entered (in_right (sym (lag_alike ts) ∙ h) (led r) r);
   yields = λ a. refl;
   sticks = λ u following r. entered_stuck (sticks_on r);
@@ -155,7 +155,7 @@ index_goes {ts} (entered (in_left h (taken {token = t} k))) = inl (record {
 })
 index_goes {ts} {between} (entered (in_right h k (both {a = w} r (left_out l)))) = inl (record {
   wrap = λ b. node (right (pair w (node (right b))));
-  leading = lead_the HeadIndices (lead_right (unled_next (is Text) (the AfterHeadIndex) ts h) (name_led ts k) (lead_second r (behind_name between l)));
+  leading = lead_the HeadIndices (lead_right (unled_next (is Text) (the AfterHeadIndex) ts h) (name_led ts k) (lead_second r (after_name between l)));
   act_on = λ source s target comma b. refl;
   act_closed = λ source s target closing b. refl;
   indices_on = λ source s comma b. refl;
@@ -258,23 +258,23 @@ index_taken (takes_the (takes_right (takes_first (takes_one h)))) = takes_the (t
 index_taken (takes_the (takes_right (takes_second r (takes_opt t)))) = takes_the (takes_right (takes_second r (takes_the (takes_left (takes_first t)))))
 
 -- after an index: either form continues
-stuck_behind : {ts between u following : List KindedToken} {first : Derivation} → Reads productions look_ahead (the Index) ts (read first between) → Reads productions look_ahead (the AfterHeadIndex) between (stuck u following) → Reads productions look_ahead (many (token Comma · the Index)) between (stuck u following) →
+stuck_after : {ts between u following : List KindedToken} {first : Derivation} → Reads productions look_ahead (the Index) ts (read first between) → Reads productions look_ahead (the AfterHeadIndex) between (stuck u following) → Reads productions look_ahead (many (token Comma · the Index)) between (stuck u following) →
     Reads productions look_ahead (the HeadIndices) ts (stuck (yield first ++ u) following)
-stuck_behind {u = u} {following = following} r a m = elim (index_goes r) [ inl p ↦ p.leading.sticks u following a | inr l ↦ l.leading.sticks u following (entered_stuck (first_stuck m)) ]
+stuck_after {u = u} {following = following} r a m = elim (index_goes r) [ inl p ↦ p.leading.sticks u following a | inr l ↦ l.leading.sticks u following (entered_stuck (first_stuck m)) ]
 
-taken_behind : {ts between u following : List KindedToken} {first : Derivation} → Reads productions look_ahead (the Index) ts (read first between) → Takes productions look_ahead (the AfterHeadIndex) between u following → Takes productions look_ahead (many (token Comma · the Index)) between u following →
+taken_after : {ts between u following : List KindedToken} {first : Derivation} → Reads productions look_ahead (the Index) ts (read first between) → Takes productions look_ahead (the AfterHeadIndex) between u following → Takes productions look_ahead (many (token Comma · the Index)) between u following →
     Takes productions look_ahead (the HeadIndices) ts (yield first ++ u) following
-taken_behind {u = u} {following = following} r a m = elim (index_goes r) [ inl p ↦ p.leading.takes u following a | inr l ↦ l.leading.takes u following (takes_the (takes_first m)) ]
+taken_after {u = u} {following = following} r a m = elim (index_goes r) [ inl p ↦ p.leading.takes u following a | inr l ↦ l.leading.takes u following (takes_the (takes_first m)) ]
 
 others_stuck : {ts between u following : List KindedToken} {first : Derivation} → Reads productions look_ahead (the Index) ts (read first between) → Reads productions look_ahead (many (token Comma · the Index)) between (stuck u following) → Reads productions look_ahead (the HeadIndices) ts (stuck (yield first ++ u) following)
 others_stuck {between = between} r (again_stuck h (first_stuck (refused k))) = absurd (both_ways _ h (unled_next (is Comma) (the Index) between k))
-others_stuck {between = between} r (again_stuck h (second_stuck c s)) = stuck_behind r (entered_stuck (in_left_stuck (sym (comma_alike between) ∙ h) (second_stuck c (index_stuck s)))) (again_stuck h (second_stuck c s))
-others_stuck {between = between} r (later_stuck h (both (taken k) s) m) = stuck_behind r (entered_stuck (in_left_stuck (sym (comma_alike between) ∙ h) (second_stuck (taken k) (others_stuck s m)))) (later_stuck h (both (taken k) s) m)
+others_stuck {between = between} r (again_stuck h (second_stuck c s)) = stuck_after r (entered_stuck (in_left_stuck (sym (comma_alike between) ∙ h) (second_stuck c (index_stuck s)))) (again_stuck h (second_stuck c s))
+others_stuck {between = between} r (later_stuck h (both (taken k) s) m) = stuck_after r (entered_stuck (in_left_stuck (sym (comma_alike between) ∙ h) (second_stuck (taken k) (others_stuck s m)))) (later_stuck h (both (taken k) s) m)
 
 others_taken : {ts between u following : List KindedToken} {first : Derivation} → Reads productions look_ahead (the Index) ts (read first between) → Takes productions look_ahead (many (token Comma · the Index)) between u following → Takes productions look_ahead (the HeadIndices) ts (yield first ++ u) following
-others_taken r (takes_many (takes_first (takes_one h))) = taken_behind r (takes_the (takes_left (takes_first (takes_one h)))) (takes_many (takes_first (takes_one h)))
-others_taken r (takes_many (takes_second c t)) = taken_behind r (takes_the (takes_left (takes_second c (index_taken t)))) (takes_many (takes_second c t))
-others_taken r (takes_later (both (taken k) s) t) = taken_behind r (takes_the (takes_left (takes_second (taken k) (others_taken s t)))) (takes_later (both (taken k) s) t)
+others_taken r (takes_many (takes_first (takes_one h))) = taken_after r (takes_the (takes_left (takes_first (takes_one h)))) (takes_many (takes_first (takes_one h)))
+others_taken r (takes_many (takes_second c t)) = taken_after r (takes_the (takes_left (takes_second c (index_taken t)))) (takes_many (takes_second c t))
+others_taken r (takes_later (both (taken k) s) t) = taken_after r (takes_the (takes_left (takes_second (taken k) (others_taken s t)))) (takes_later (both (taken k) s) t)
 
 list_stuck : {ts u following : List KindedToken} → Reads productions look_ahead (the IndexList) ts (stuck u following) → Reads productions look_ahead (the HeadIndices) ts (stuck u following)
 list_stuck (entered_stuck (first_stuck r)) = index_stuck r

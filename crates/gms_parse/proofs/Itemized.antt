@@ -41,15 +41,15 @@ pub record Itemizing {T A : Type 0} (limit : ℕ) (show : T → A) (meaning : Se
   pub further : start ≤ at
 
 -- the state after the comma or the line end before a further item
-abbrev pub further_walk : (reader : Reader) (at following : ℕ) → ReaderState → IsFurther reader at following → ReaderState
-further_walk reader at following v (inl p) = past reader v Comma p.token following
-further_walk reader at following v (inr p) = past reader v Break p.0.token following
+abbrev pub further_read_state : (reader : Reader) (at following : ℕ) → ReaderState → IsFurther reader at following → ReaderState
+further_read_state reader at following v (inl p) = past reader v Comma p.token following
+further_read_state reader at following v (inr p) = past reader v Break p.0.token following
 
-pub further_stays : (reader : Reader) (at following : ℕ) {tables : Tables} {v : ReaderState} (f : IsFurther reader at following) → Has reader tables v → Stays reader tables v (further_walk reader at following v f)
+pub further_stays : (reader : Reader) (at following : ℕ) {tables : Tables} {v : ReaderState} (f : IsFurther reader at following) → Has reader tables v → Stays reader tables v (further_read_state reader at following v f)
 further_stays reader at following {v = v} (inl p) h = plain_stays reader v Comma p.token following refl h
 further_stays reader at following {v = v} (inr p) h = plain_stays reader v Break p.0.token following refl h
 
-pub further_starts : (reader : Reader) (at following : ℕ) {tables : Tables} {v : ReaderState} (f : IsFurther reader at following) → Has reader tables v → Optionless v → Starts reader tables (further_walk reader at following v f)
+pub further_starts : (reader : Reader) (at following : ℕ) {tables : Tables} {v : ReaderState} (f : IsFurther reader at following) → Has reader tables v → Optionless v → Starts reader tables (further_read_state reader at following v f)
 further_starts reader at following {v = v} (inl p) h o = plain_starts reader v Comma p.token following refl refl h o
 further_starts reader at following {v = v} (inr p) h o = plain_starts reader v Break p.0.token following refl refl h o
 
@@ -67,7 +67,7 @@ further_tree reader at following (inl p) tree = some (left (pair (leaf (Comma, p
 further_tree reader at following (inr p) tree = some (right (pair (leaf (Break, p.0.token)) (some tree)))
 
 module _ {item again : Nonterminal} (part : ItemPart item again) {limit : ℕ} (reader : Reader) (at following : ℕ) where
-  further_within : {v : ReaderState} (f : IsFurther reader at following) → Within limit reader.source.now (further_of again) v (seen_from reader at) (the again) (further_walk reader at following v f) (seen_from reader following) (further_tree reader at following f)
+  further_within : {v : ReaderState} (f : IsFurther reader at following) → Within limit reader.source.now (further_of again) v (seen_from reader at) (the again) (further_read_state reader at following v f) (seen_from reader following) (further_tree reader at following f)
   further_within (inl p) =
       let led = leads_next (the again) p.next in
       within_then (within_some (led_either (token Comma · the again) (token Break · opt (the again)) (seen_from reader at) led)) (within_then (within_left led) (within_second (gives_exact {kind = Comma} p.next refl)))
@@ -95,7 +95,7 @@ module _ {T A : Type 0} {limit : ℕ} {show : T → A} {meaning : Sense → Deri
 
   module _ {new : Tables} {xs : List T} {at : ℕ} (l : Itemizing limit show meaning again reader start w new xs at) where
     -- one more
-    pub items_on : {following : ℕ} (f : IsFurther reader at following) → {newer : Tables} {x : T} {after : ℕ} → IsGot limit Means (Stays reader newer (further_walk reader at following l.following f)) (the item) reader following newer (further_walk reader at following l.following f) x after →
+    pub items_on : {following : ℕ} (f : IsFurther reader at following) → {newer : Tables} {x : T} {after : ℕ} → IsGot limit Means (Stays reader newer (further_read_state reader at following l.following f)) (the item) reader following newer (further_read_state reader at following l.following f) x after →
         (now : List T) → now ≡ xs ++ x ∷ [] → Itemizing limit show meaning again reader start w newer now after
     items_on {following} f {newer} {x} {after} got now is =
         let between = further_stays reader at following f l.stays.has in
@@ -110,7 +110,7 @@ module _ {T A : Type 0} {limit : ℕ} {show : T → A} {meaning : Sense → Deri
         }
 
     -- the next one is refused
-    pub items_refused : {following : ℕ} (f : IsFurther reader at following) → {e : SourceFaultOrMemory} → Refuses limit reader.source.now (the item) (further_walk reader at following l.following f) (seen_from reader following) e → Refuses limit reader.source.now (the again) w (seen_from reader start) e
+    pub items_refused : {following : ℕ} (f : IsFurther reader at following) → {e : SourceFaultOrMemory} → Refuses limit reader.source.now (the item) (further_read_state reader at following l.following f) (seen_from reader following) e → Refuses limit reader.source.now (the again) w (seen_from reader start) e
     items_refused {following} f r = l.within.refuses _ ((further_within part reader at following f).refuses _ ((part.enters limit reader.source.now _ _).refuses _ (refuses_first r)))
 
     -- no more is to be read
@@ -130,8 +130,8 @@ module _ {T A : Type 0} {limit : ℕ} {show : T → A} {meaning : Sense → Deri
         (let a = l.further in let f = p.next.further in omega arith)
 
 -- the place after the last item
-pub behind_break : {reader : Reader} {at following : ℕ} → IsNotFurther reader at → IsPassed Break reader at following → IsAfterLast reader at following
-behind_break {reader} {at} {following} u p = elim u.1 [ inl h ↦ (let k = led_next p.next in cc) | inr q ↦ inr (p, sym (ap (leads productions look_ahead name) (same_rest q.1)) ∙ q.2) ]
+pub after_break : {reader : Reader} {at following : ℕ} → IsNotFurther reader at → IsPassed Break reader at following → IsAfterLast reader at following
+after_break {reader} {at} {following} u p = elim u.1 [ inl h ↦ (let k = led_next p.next in cc) | inr q ↦ inr (p, sym (ap (leads productions look_ahead name) (same_rest q.1)) ∙ q.2) ]
   where
     same_rest : {other : ℕ} → IsPassed Break reader at other → seen_from reader other ≡ seen_from reader following
     same_rest {other} q =

@@ -33,7 +33,7 @@ use Rattle.gms_parse.proofs.TokenKinds.{unled_next}
 use Rattle.gms_parse.proofs.Steps.{got_by, gives_both, gives_the, gives_none, gives_some, refuses_the, refuses_first, refuses_second, refuses_some}
 use Rattle.gms_parse.proofs.Nexts.{past, leads_next, gives_exact, refuses_lacking, plain_stays, stays_then, stays_same}
 use Rattle.gms_expressions.proofs.Chains.{place_read}
-use Rattle.gms_parse.proofs.Listing.{AreAll, all_meant, list_of, Listing, listing_start, listing_on, listing_got, separated_walk}
+use Rattle.gms_parse.proofs.Listing.{AreAll, all_meant, list_of, Listing, listing_start, listing_on, listing_got, separated_read_state}
 
 -- ---- elements
 
@@ -53,7 +53,7 @@ module _ {limit : ℕ} {reader : Reader} {start : ℕ} {w : ReaderState} where
   positions_start {part = part} got parts one_part bad_is = record { ghost = part ∷ []; parts_are = one_part; bad_is = bad_is ∙ sym (or-false part.bad_range); listing = listing_start got (part ∷ []) refl }
 
   pub positions_on : {new : Tables} {parts : List (List ℕ)} {bad : Bool} {at : ℕ} (l : Positions limit reader start w new parts bad at) {t : Token} {following : ℕ} (n : IsNext (is Dot) reader at t following) {newer : Tables} {part : Position} {after : ℕ} →
-      IsGot limit (IsPart reader.source.now) (Stays reader newer (separated_walk l.listing n)) (the ElementPart) reader following newer (separated_walk l.listing n) part after → (now : List (List ℕ)) → now ≡ parts ++ part.labels.items ∷ [] → (worse : Bool) → worse ≡ (bad || part.bad_range) → Positions limit reader start w newer now worse after
+      IsGot limit (IsPart reader.source.now) (Stays reader newer (separated_read_state l.listing n)) (the ElementPart) reader following newer (separated_read_state l.listing n) part after → (now : List (List ℕ)) → now ≡ parts ++ part.labels.items ∷ [] → (worse : Bool) → worse ≡ (bad || part.bad_range) → Positions limit reader start w newer now worse after
   positions_on l n {part = part} got now one_more worse bad_is = record {
     ghost = l.ghost ++ part ∷ [];
     parts_are = one_more ∙ ap (λ u. u ++ part.labels.items ∷ []) l.parts_are ∙ sym (map_push (λ (p : Position). p.labels.items) l.ghost part);

@@ -37,31 +37,31 @@ past_other : {limit : ℕ} {source : List ℕ} {w : ReaderState} {ts : List Kind
 past_other {ts = ts} p q closed shut none_of all_of inner =
     within_right (leads_by_kind p ts closed ∙ not-true _ (also is_inner (λ k. not (may_begin look_ahead p k)) none_of (kind_of ts) inner)) (leads_by_kind q ts shut ∙ also is_inner (may_begin look_ahead q) all_of (kind_of ts) inner)
 
-abbrev behind_models : GamsPart
-behind_models = the AliasStatement ∣ other_statement
+abbrev after_models : GamsPart
+after_models = the AliasStatement ∣ other_statement
 
-abbrev behind_equations : GamsPart
-behind_equations = the ModelStatement ∣ behind_models
+abbrev after_equations : GamsPart
+after_equations = the ModelStatement ∣ after_models
 
-abbrev behind_variables : GamsPart
-behind_variables = the EquationStatement ∣ behind_equations
+abbrev after_variables : GamsPart
+after_variables = the EquationStatement ∣ after_equations
 
-abbrev behind_tables : GamsPart
-behind_tables = the VariableStatement ∣ behind_variables
+abbrev after_tables : GamsPart
+after_tables = the VariableStatement ∣ after_variables
 
-abbrev behind_scalars : GamsPart
-behind_scalars = the TableStatement ∣ behind_tables
+abbrev after_scalars : GamsPart
+after_scalars = the TableStatement ∣ after_tables
 
-abbrev behind_parameters : GamsPart
-behind_parameters = the ScalarStatement ∣ behind_scalars
+abbrev after_parameters : GamsPart
+after_parameters = the ScalarStatement ∣ after_scalars
 
-abbrev behind_sets : GamsPart
-behind_sets = the ParameterStatement ∣ behind_parameters
+abbrev after_sets : GamsPart
+after_sets = the ParameterStatement ∣ after_parameters
 
 inner_within : {limit : ℕ} {source : List ℕ} {w : ReaderState} {ts : List KindedToken} → is_inner (kind_of ts) ≡ true → Within limit source (the KeywordStatement) w ts other_statement w ts (λ t. node (right (right (right (right (right (right (right (right t)))))))))
-inner_within k = within_then (within_the KeywordStatement) (within_then (past_other (the SetStatement) behind_sets refl refl refl refl k) (within_then (past_other (the ParameterStatement) behind_parameters refl refl refl refl k)
-    (within_then (past_other (the ScalarStatement) behind_scalars refl refl refl refl k) (within_then (past_other (the TableStatement) behind_tables refl refl refl refl k) (within_then (past_other (the VariableStatement) behind_variables refl refl refl refl k)
-    (within_then (past_other (the EquationStatement) behind_equations refl refl refl refl k) (within_then (past_other (the ModelStatement) behind_models refl refl refl refl k) (past_other (the AliasStatement) other_statement refl refl refl refl k))))))))
+inner_within k = within_then (within_the KeywordStatement) (within_then (past_other (the SetStatement) after_sets refl refl refl refl k) (within_then (past_other (the ParameterStatement) after_parameters refl refl refl refl k)
+    (within_then (past_other (the ScalarStatement) after_scalars refl refl refl refl k) (within_then (past_other (the TableStatement) after_tables refl refl refl refl k) (within_then (past_other (the VariableStatement) after_variables refl refl refl refl k)
+    (within_then (past_other (the EquationStatement) after_equations refl refl refl refl k) (within_then (past_other (the ModelStatement) after_models refl refl refl refl k) (past_other (the AliasStatement) other_statement refl refl refl refl k))))))))
 
 pub other_within : {limit : ℕ} {source : List ℕ} {w : ReaderState} (ts : List KindedToken) {k : Terminal} → k ≡ kind_of ts → is_keyword (kind_of ts) ≡ true → IsNone heads k → Within limit source (the KeywordStatement) w ts other_statement w ts (λ t. node (right (right (right (right (right (right (right (right t)))))))))
 other_within ts {k} seen keyword none_of = inner_within (and_from _ _ keyword (not_from_false (is_terminal_among heads (kind_of ts)) (ap (is_terminal_among heads) (sym seen) ∙ not_among heads k none_of)))

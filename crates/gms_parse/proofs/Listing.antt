@@ -81,24 +81,24 @@ module _ {T : Type 0} {limit : ℕ} {Means : Sense → Derivation → T → Type
 
   module _ {new : Tables} {items : List T} {at : ℕ} (l : Listing limit Means separator p reader start w new items at) where
     -- the state after a separator
-    abbrev pub separated_walk : {t : Token} {following : ℕ} → IsNext separator reader at t following → ReaderState
-    separated_walk {t} {following} n = past reader l.following n.kind t following
+    abbrev pub separated_read_state : {t : Token} {following : ℕ} → IsNext separator reader at t following → ReaderState
+    separated_read_state {t} {following} n = past reader l.following n.kind t following
 
-    pub separated_stays : {t : Token} {following : ℕ} (n : IsNext separator reader at t following) → implies separator is_plain ≡ true → Stays reader new w (separated_walk n)
+    pub separated_stays : {t : Token} {following : ℕ} (n : IsNext separator reader at t following) → implies separator is_plain ≡ true → Stays reader new w (separated_read_state n)
     separated_stays {t = t} {following = following} n plain = stays_then l.stays (plain_stays reader l.following n.kind t following (also separator is_plain plain n.kind n.passes) l.stays.has)
 
     -- a name may follow it
-    pub separated_starts : {t : Token} {following : ℕ} (n : IsNext separator reader at t following) → implies separator is_plain ≡ true → implies separator is_undotted ≡ true → {old : Tables} → Starts reader old w → Starts reader new (separated_walk n)
+    pub separated_starts : {t : Token} {following : ℕ} (n : IsNext separator reader at t following) → implies separator is_plain ≡ true → implies separator is_undotted ≡ true → {old : Tables} → Starts reader old w → Starts reader new (separated_read_state n)
     separated_starts n plain undotted s =
         let k = separated_stays n plain in
         record { has = k.has; undotted = not-true _ (also separator is_undotted undotted n.kind n.passes); optionless = optionless_on k.keyword s.optionless }
 
     -- a range may begin after it
-    pub separated_starless : {t : Token} {following : ℕ} (n : IsNext separator reader at t following) → implies separator is_starless ≡ true → is Star (last_kind (separated_walk n).before) ≡ false
+    pub separated_starless : {t : Token} {following : ℕ} (n : IsNext separator reader at t following) → implies separator is_starless ≡ true → is Star (last_kind (separated_read_state n).before) ≡ false
     separated_starless n starless = not-true _ (also separator is_starless starless n.kind n.passes)
 
     -- one more
-    pub listing_on : {t : Token} {following : ℕ} (n : IsNext separator reader at t following) → implies separator is_plain ≡ true → {newer : Tables} {x : T} {after : ℕ} → IsGot limit Means (Stays reader newer (separated_walk n)) p reader following newer (separated_walk n) x after →
+    pub listing_on : {t : Token} {following : ℕ} (n : IsNext separator reader at t following) → implies separator is_plain ≡ true → {newer : Tables} {x : T} {after : ℕ} → IsGot limit Means (Stays reader newer (separated_read_state n)) p reader following newer (separated_read_state n) x after →
         (now : List T) → now ≡ items ++ x ∷ [] → Listing limit Means separator p reader start w newer now after
     listing_on {t = t} n plain {newer = newer} {x = x} got now is =
         let g = gives_both (gives_plain n plain) got.gives in
@@ -113,7 +113,7 @@ module _ {T : Type 0} {limit : ℕ} {Means : Sense → Derivation → T → Type
         }
 
     -- the next one is refused
-    pub listing_refuses : {t : Token} {following : ℕ} (n : IsNext separator reader at t following) → implies separator is_plain ≡ true → {e : SourceFaultOrMemory} → Refuses limit reader.source.now p (separated_walk n) (seen_from reader following) e →
+    pub listing_refuses : {t : Token} {following : ℕ} (n : IsNext separator reader at t following) → implies separator is_plain ≡ true → {e : SourceFaultOrMemory} → Refuses limit reader.source.now p (separated_read_state n) (seen_from reader following) e →
         Refuses limit reader.source.now (list_of separator p) w (seen_from reader start) e
     listing_refuses n plain r = l.within.refuses _ (refuses_again (leads_next p n) (refuses_second (gives_plain n plain) r))
 

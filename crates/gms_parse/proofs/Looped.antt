@@ -37,7 +37,7 @@ use Rattle.gms_parse.specs.InnerMeanings.{IsControl, IsInner, IsBody, IsAct, act
 use Rattle.gms_parse.proofs.TokenKinds.{IsNone, leads_alike, leads_of_none, unled_next}
 use Rattle.gms_parse.proofs.Steps.{got_by, Within, within_the, within_left, within_right, within_second, within_some, within_then, gives_one, gives_both, gives_the, gives_none, refuses_the, refuses_first, refuses_second, refuses_at}
 use Rattle.gms_parse.proofs.Choices.{through, leads_at}
-use Rattle.gms_parse.proofs.Ends.{behind_within}
+use Rattle.gms_parse.proofs.Ends.{after_within}
 use Rattle.gms_parse.proofs.StateLemmas.{closing_sound}
 use Rattle.gms_parse.proofs.Nexts.{past, exact, opened, open_starts, gives_open, refuses_inside, refuses_within, got_inside, refuses_lacking, leads_next, gives_exact, begun_has, begun_starts, quiet_holds, plain_starts, tableless_on, earlier}
 use Rattle.gms_expressions.proofs.Chains.{place_read}
@@ -129,7 +129,7 @@ module _ {reader : Reader} {at opening : ℕ} {word : Token} {old : Tables} {w :
 
 -- inside the parenthesis tokens are left
 pub inner_within : {reader inner : Reader} {at start : ℕ} → IsReady reader → IsOpened reader at inner start → start < length inner.tokens.now
-inner_within {start = start} ready o = subst (λ (r : Reader). start < length r.tokens.now) (sym o.inner_is) (behind_within LeftParen ready o.next refl)
+inner_within {start = start} ready o = subst (λ (r : Reader). start < length r.tokens.now) (sym o.inner_is) (after_within LeftParen ready o.next refl)
 
 pub leads_assignment : (ts : List KindedToken) → leads productions look_ahead (the Assignment) ts ≡ leads productions look_ahead (any_of (Name ∷ Suffix ∷ [])) ts
 leads_assignment ts = leads_alike (the Assignment) (any_of (Name ∷ Suffix ∷ [])) ts refl refl (same_test (may_begin look_ahead (the Assignment)) (is_terminal_among (Name ∷ Suffix ∷ [])) refl)

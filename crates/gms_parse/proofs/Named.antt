@@ -24,7 +24,7 @@ use Rattle.gms_parse.specs.ReadStates.{KindedToken, ReaderState}
 use Rattle.gms_parse.specs.InnerReadings.{Derivation, GamsPart, Gives, Refuses, Sense, IsSense, IsGot, Starts, Stays, StaysOpen, Tableless, IsNext, seen_from}
 use Rattle.gms_parse.specs.InnerMeanings.{IsTarget, IsCondition, IsAssigned, IsDefined, IsAct, is_plain_target}
 use Rattle.gms_parse.proofs.TokenKinds.{unled_next, led_first}
-use Rattle.gms_parse.proofs.Steps.{got_by, Within, gives_as, gives_both, gives_the, gives_left, gives_right, refuses_the, refuses_first, refuses_second, refuses_right, by_cause, stuck_as, wrong_as, stuck_behind, wrong_behind}
+use Rattle.gms_parse.proofs.Steps.{got_by, Within, gives_as, gives_both, gives_the, gives_left, gives_right, refuses_the, refuses_first, refuses_second, refuses_right, by_cause, stuck_as, wrong_as, stuck_after, wrong_after}
 use Rattle.gms_parse.proofs.Nexts.{past, exact, gives_exact, leads_next, plain_starts, kind_stays, stays_then, earlier, optionless_on, tableless_on}
 use Rattle.gms_parse.proofs.Heads.{Leading, target_stuck, target_taken, target_goes}
 
@@ -39,8 +39,8 @@ module _ {limit : ℕ} {source : List ℕ} where
     within_of = record {
       gives = λ a x following h. gives_as (gives_both g h) (l.reads a following h.reads) (sym (l.yields a));
       refuses = λ e r. by_cause r
-          (λ fault s. stuck_behind g s (l.sticks s.prefix s.rest s.reads))
-          (λ fault s. wrong_behind g s (l.takes (s.before ++ s.token ∷ []) s.following s.takes));
+          (λ fault s. stuck_after g s (l.sticks s.prefix s.rest s.reads))
+          (λ fault s. wrong_after g s (l.takes (s.before ++ s.token ∷ []) s.following s.takes));
     }
 
 -- ---- `=` or `..`

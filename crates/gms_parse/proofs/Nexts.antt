@@ -20,7 +20,7 @@ use Rattle.gms_parse.specs.declared.reader.Tables.{Tables}
 use Rattle.gms_parse.specs.ReadStates.{KindedToken, ReaderState, ends_statement, reader_after, IsFaulty, deep, out_of_range, many_names, many_labels, in_table, without_lines}
 use Rattle.gms_parse.specs.InnerReadings.{Derivation, GamsPart, Gives, Refuses, Sense, IsSense, Holds, Has, Starts, Stays, Optionless, IsNext, IsLacking, IsOpened, IsUnopened, inside, seen_from, kind_of, IsGot}
 use Rattle.gms_parse.proofs.TokenKinds.{begins, is_quiet, is_plain, same_kind, led_first}
-use Rattle.gms_parse.proofs.StateLemmas.{quiet_after, quiet_sound, closing_sound, keyword_after, begun_after, room_for_none, names_kept, labels_kept}
+use Rattle.gms_parse.proofs.StateLemmas.{quiet_after, quiet_sound, closing_sound, keyword_after, begun_after, bound_for_none, names_kept, labels_kept}
 use Rattle.gms_parse.proofs.Steps.{got_by, gives_one, gives_both, refuses_at, refuses_first, refuses_second}
 
 -- what a token leaves, which a reader has passed
@@ -177,7 +177,7 @@ module _ {reader : Reader} {at start : ℕ} {inner : Reader} {old : Tables} {w :
         sound fault (deep e d) = let within_bound = o.within_bound in let c = h.holds.open_count in absurd (omega (arith, d, c, within_bound))
         sound fault (out_of_range e d) = cc
         sound fault (many_names e d) = cc
-        sound fault (many_labels e d) = room_for_none _ _ refl d
+        sound fault (many_labels e d) = bound_for_none _ _ refl d
         sound fault (in_table e d f) = cc
         sound fault (without_lines e d f) = cc
 

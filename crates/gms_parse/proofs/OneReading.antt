@@ -10,7 +10,7 @@ use Rattle.gms_grammar.specs.declared.terminal.Terminal.TheVariants.{LeftParen, 
 use Rattle.gms_grammar.specs.Grammar.{the, yield, Stops}
 use Rattle.gms_grammar.specs.Terminals.{is}
 use Rattle.gms_grammar.specs.GamsGrammar.{Program, productions}
-use Rattle.gms_grammar.proofs.Basics.{behind_same}
+use Rattle.gms_grammar.proofs.Basics.{after_same}
 use Rattle.gms_grammar.proofs.Stopping.{stops_once}
 use Rattle.gms_grammar.proofs.Language.{gams_unique}
 use Rattle.gms_grammar.specs.Rules as rules
@@ -28,7 +28,7 @@ use Rattle.gms_parse.specs.ReadStates.{KindedToken, ReaderState, start, kind_of,
 use Rattle.gms_parse.specs.InnerReadings.{Derivation}
 use Rattle.gms_parse.proofs.Alphabet.{pass_rest}
 use Rattle.gms_parse.proofs.EndTokens.{begins_other, is_other}
-use Rattle.gms_parse.proofs.StateLemmas.{room_for_none}
+use Rattle.gms_parse.proofs.StateLemmas.{bound_for_none}
 use Rattle.gms_parse.proofs.TableFaults.{one_line_fault}
 
 -- programs with the same names, labels and statements have the same view
@@ -82,7 +82,7 @@ module _ (limit : ℕ) (source : List ℕ) where
       prefix = stops_once productions (the Program) tokens (yield p.tree) ((End, p.end) ∷ []) none.prefix none.rest (program_stops p) none.stops
 
       rest : (End, p.end) ∷ [] ≡ none.rest
-      rest = behind_same (yield p.tree) ((End, p.end) ∷ []) none.rest (sym p.tokens_are ∙ none.stops.parts ∙ ap (λ w. w ++ none.rest) (sym prefix))
+      rest = after_same (yield p.tree) ((End, p.end) ∷ []) none.rest (sym p.tokens_are ∙ none.stops.parts ∙ ap (λ w. w ++ none.rest) (sym prefix))
 
       ahead : kind_of none.rest ≡ End
       ahead = ap kind_of (sym rest)
@@ -123,9 +123,9 @@ module _ (limit : ℕ) (source : List ℕ) where
   names_tell read_state _ token h = refl
 
   labels_tell : (read_state : ReaderState) (kind : Terminal) (token : Token) (ahead : Terminal) → is TableLine kind ≡ false → ExceedsTable read_state.labels (new_labels source read_state (kind, token) ahead) → Tells read_state kind token (record { error = Syntax TooManyLabels; at = token.at })
-  labels_tell read_state LeftParen token ahead h l = absurd (room_for_none read_state.labels (new_labels source read_state (LeftParen, token) ahead) refl l)
-  labels_tell read_state Number token ahead h l = absurd (room_for_none read_state.labels (new_labels source read_state (Number, token) ahead) refl l)
-  labels_tell read_state RightParen token ahead h l = absurd (room_for_none read_state.labels (new_labels source read_state (RightParen, token) ahead) refl l)
+  labels_tell read_state LeftParen token ahead h l = absurd (bound_for_none read_state.labels (new_labels source read_state (LeftParen, token) ahead) refl l)
+  labels_tell read_state Number token ahead h l = absurd (bound_for_none read_state.labels (new_labels source read_state (Number, token) ahead) refl l)
+  labels_tell read_state RightParen token ahead h l = absurd (bound_for_none read_state.labels (new_labels source read_state (RightParen, token) ahead) refl l)
   labels_tell read_state TableLine token ahead h l = absurd cc
   labels_tell read_state _ token ahead h l = refl
 

@@ -5,7 +5,7 @@ use Rattle.gms_grammar.specs.Grammar.{one, the, many, yield, IsTree, Derives, St
 use Rattle.gms_grammar.specs.Reading.{Found, read, stuck, Reads, Takes, taken, refused, entered, entered_stuck, both, first_stuck, second_stuck, in_left, in_left_stuck, in_right, in_right_stuck, in_neither, left_out, there, there_stuck, no_more, again, again_stuck, later_stuck, takes_one, takes_the, takes_first, takes_second, takes_left, takes_right, takes_opt, takes_many, takes_later}
 use Rattle.gms_grammar.specs.GamsGrammar.{Nonterminal, productions}
 use Rattle.gms_grammar.specs.GamsLookAhead.{look_ahead}
-use Rattle.gms_grammar.proofs.Basics.{behind_same}
+use Rattle.gms_grammar.proofs.Basics.{after_same}
 use Rattle.gms_grammar.proofs.Orders.{some_there}
 use Rattle.gms_grammar.proofs.Sound.{sound}
 use Rattle.gms_grammar.proofs.Stopping.{stops_once}
@@ -35,9 +35,9 @@ split (y ∷ a) b (z ∷ u) x v e = go (split a b u x v cc)
     go (beyond w h k) = let p : z ∷ u ≡ y ∷ (a ++ w) = cc in beyond w p k
 
 -- the tokens that were gone over, and the rest
-abbrev front_of : Found KindedToken → List KindedToken
-front_of (read tree rest) = yield tree
-front_of (stuck prefix rest) = prefix
+abbrev prefix_of : Found KindedToken → List KindedToken
+prefix_of (read tree rest) = yield tree
+prefix_of (stuck prefix rest) = prefix
 
 abbrev rest_of : Found KindedToken → List KindedToken
 rest_of (read tree rest) = rest
@@ -56,38 +56,38 @@ joined {p} {q} {r} {ts} {between} {rest} a c first second f g is u x v e = elim 
 ]
 
 -- each token that was read ends a prefix of those read
-pub takes_front : {p : GamsPart} {ts : List KindedToken} {found : Found KindedToken} → Reads productions look_ahead p ts found → (u : List KindedToken) (x : KindedToken) (v : List KindedToken) → front_of found ≡ u ++ (x ∷ v) → Takes productions look_ahead p ts (u ++ x ∷ []) (v ++ rest_of found)
-takes_front (taken {test = test} {token = token} {rest = rest} h) [] x v e =
+pub takes_prefix : {p : GamsPart} {ts : List KindedToken} {found : Found KindedToken} → Reads productions look_ahead p ts found → (u : List KindedToken) (x : KindedToken) (v : List KindedToken) → prefix_of found ≡ u ++ (x ∷ v) → Takes productions look_ahead p ts (u ++ x ∷ []) (v ++ rest_of found)
+takes_prefix (taken {test = test} {token = token} {rest = rest} h) [] x v e =
     let same : token ≡ x = cc in
     let none : [] ≡ v = cc in
     subst (λ (z : KindedToken). Takes productions look_ahead (one test) (token ∷ rest) (z ∷ []) (v ++ rest)) same (subst (λ (w : List KindedToken). Takes productions look_ahead (one test) (token ∷ rest) (token ∷ []) (w ++ rest)) none (takes_one h))
-takes_front (taken {token = token} h) (y ∷ u) x v e =
+takes_prefix (taken {token = token} h) (y ∷ u) x v e =
     let less : [] ≡ u ++ (x ∷ v) = cc in
     absurd (some_there u x v less)
-takes_front (refused h) u x v e = absurd (some_there u x v e)
-takes_front (entered r) u x v e = takes_the (takes_front r u x v e)
-takes_front (entered_stuck r) u x v e = takes_the (takes_front r u x v e)
-takes_front (both {p = p} {q = q} {a = a} {b = b} r s) u x v e = joined {p = p} {q = q} a (yield b) (λ prefix following t. takes_first t) (λ prefix following t. takes_second r t) (takes_front r) (takes_front s) (sound productions look_ahead s).1 u x v e
-takes_front (first_stuck r) u x v e = takes_first (takes_front r u x v e)
-takes_front (second_stuck {p = p} {q = q} {prefix = prefix} {a = a} r s) u x v e = joined {p = p} {q = q} a prefix (λ f following t. takes_first t) (λ f following t. takes_second r t) (takes_front r) (takes_front s) (sound productions look_ahead s) u x v e
-takes_front (in_left h r) u x v e = takes_left (takes_front r u x v e)
-takes_front (in_left_stuck h r) u x v e = takes_left (takes_front r u x v e)
-takes_front (in_right h k r) u x v e = takes_right (takes_front r u x v e)
-takes_front (in_right_stuck h k r) u x v e = takes_right (takes_front r u x v e)
-takes_front (in_neither h k) u x v e = absurd (some_there u x v e)
-takes_front (left_out h) u x v e = absurd (some_there u x v e)
-takes_front (there h r) u x v e = takes_opt (takes_front r u x v e)
-takes_front (there_stuck h r) u x v e = takes_opt (takes_front r u x v e)
-takes_front (no_more h) u x v e = absurd (some_there u x v e)
-takes_front (again {p = p} {a = a} {b = b} h r s) u x v e = joined {p = p} {q = many p} a (yield b) (λ prefix following t. takes_many t) (λ prefix following t. takes_later r t) (takes_front r) (takes_front s) (sound productions look_ahead s).1 u x v e
-takes_front (again_stuck h r) u x v e = takes_many (takes_front r u x v e)
-takes_front (later_stuck {p = p} {prefix = prefix} {a = a} h r s) u x v e = joined {p = p} {q = many p} a prefix (λ f following t. takes_many t) (λ f following t. takes_later r t) (takes_front r) (takes_front s) (sound productions look_ahead s) u x v e
+takes_prefix (refused h) u x v e = absurd (some_there u x v e)
+takes_prefix (entered r) u x v e = takes_the (takes_prefix r u x v e)
+takes_prefix (entered_stuck r) u x v e = takes_the (takes_prefix r u x v e)
+takes_prefix (both {p = p} {q = q} {a = a} {b = b} r s) u x v e = joined {p = p} {q = q} a (yield b) (λ prefix following t. takes_first t) (λ prefix following t. takes_second r t) (takes_prefix r) (takes_prefix s) (sound productions look_ahead s).1 u x v e
+takes_prefix (first_stuck r) u x v e = takes_first (takes_prefix r u x v e)
+takes_prefix (second_stuck {p = p} {q = q} {prefix = prefix} {a = a} r s) u x v e = joined {p = p} {q = q} a prefix (λ f following t. takes_first t) (λ f following t. takes_second r t) (takes_prefix r) (takes_prefix s) (sound productions look_ahead s) u x v e
+takes_prefix (in_left h r) u x v e = takes_left (takes_prefix r u x v e)
+takes_prefix (in_left_stuck h r) u x v e = takes_left (takes_prefix r u x v e)
+takes_prefix (in_right h k r) u x v e = takes_right (takes_prefix r u x v e)
+takes_prefix (in_right_stuck h k r) u x v e = takes_right (takes_prefix r u x v e)
+takes_prefix (in_neither h k) u x v e = absurd (some_there u x v e)
+takes_prefix (left_out h) u x v e = absurd (some_there u x v e)
+takes_prefix (there h r) u x v e = takes_opt (takes_prefix r u x v e)
+takes_prefix (there_stuck h r) u x v e = takes_opt (takes_prefix r u x v e)
+takes_prefix (no_more h) u x v e = absurd (some_there u x v e)
+takes_prefix (again {p = p} {a = a} {b = b} h r s) u x v e = joined {p = p} {q = many p} a (yield b) (λ prefix following t. takes_many t) (λ prefix following t. takes_later r t) (takes_prefix r) (takes_prefix s) (sound productions look_ahead s).1 u x v e
+takes_prefix (again_stuck h r) u x v e = takes_many (takes_prefix r u x v e)
+takes_prefix (later_stuck {p = p} {prefix = prefix} {a = a} h r s) u x v e = joined {p = p} {q = many p} a prefix (λ f following t. takes_many t) (λ f following t. takes_later r t) (takes_prefix r) (takes_prefix s) (sound productions look_ahead s) u x v e
 
 -- where tokens stop, the rest is the same
 same_rest : (n : Nonterminal) (ts prefix rest other following : List KindedToken) → Stops productions (the n) ts prefix rest → Stops productions (the n) ts other following → (prefix ≡ other) × (rest ≡ following)
 same_rest n ts prefix rest other following s t =
     let e = stops_once productions (the n) ts prefix rest other following s t in
-    (e, behind_same prefix rest following (sym s.parts ∙ t.parts ∙ ap (λ w. w ++ following) (sym e)))
+    (e, after_same prefix rest following (sym s.parts ∙ t.parts ∙ ap (λ w. w ++ following) (sym e)))
 
 -- a reader finds the tree of the longest part
 pub reads_of : (n : Nonterminal) (ts rest : List KindedToken) (tree : Derivation) → IsTree productions (the n) tree → Stops productions (the n) ts (yield tree) rest → Reads productions look_ahead (the n) ts (read tree rest)
@@ -120,7 +120,7 @@ takes_of n ts prefix rest s u x v e = let f = gams_finds n ts in go f.0 f.1
     go : (found : Found KindedToken) → Reads productions look_ahead (the n) ts found → Takes productions look_ahead (the n) ts (u ++ x ∷ []) (v ++ rest)
     go (read other following) r =
         let k = same_rest n ts (yield other) following prefix rest (gams_read_stops no_token n ts following other r) s in
-        subst (λ (z : List KindedToken). Takes productions look_ahead (the n) ts (u ++ x ∷ []) (v ++ z)) k.1 (takes_front r u x v (k.0 ∙ e))
+        subst (λ (z : List KindedToken). Takes productions look_ahead (the n) ts (u ++ x ∷ []) (v ++ z)) k.1 (takes_prefix r u x v (k.0 ∙ e))
     go (stuck other following) r =
         let k = same_rest n ts other following prefix rest (gams_stuck_stops no_token n ts other following r) s in
-        subst (λ (z : List KindedToken). Takes productions look_ahead (the n) ts (u ++ x ∷ []) (v ++ z)) k.1 (takes_front r u x v (k.0 ∙ e))
+        subst (λ (z : List KindedToken). Takes productions look_ahead (the n) ts (u ++ x ∷ []) (v ++ z)) k.1 (takes_prefix r u x v (k.0 ∙ e))

@@ -32,8 +32,8 @@ use Rattle.gms_parse.specs.ReadStates.{KindedToken, ReaderState, start, kind_ahe
 use Rattle.gms_parse.specs.Outcomes.{RequiresMore, IsTableOf, HaveItems, HasProgram, ProgramView, IsSourceFault, IsNoProgram}
 use Rattle.gms_parse.specs.InnerReadings.{Derivation}
 use Rattle.gms_parse.proofs.TokenKinds.{same_kind}
-use Rattle.gms_parse.proofs.Alphabet.{AllPass, pass_front, pass_rest}
-use Rattle.gms_grammar.proofs.Rules.{walk_append, sound_append}
+use Rattle.gms_parse.proofs.Alphabet.{AllPass, pass_prefix, pass_rest}
+use Rattle.gms_grammar.proofs.Rules.{read_state_append, sound_append}
 use Rattle.gms_grammar.proofs.FirstFaults.{sound_at}
 use Rattle.gms_parse.proofs.StateLemmas.{labels_kept}
 use Rattle.gms_parse.proofs.EndTokens.{has_end, end_alone}
@@ -100,7 +100,7 @@ module _ (limit : ℕ) (source : List ℕ) (tokens : List KindedToken) (sound : 
     run_here : run_of here.before ≡ reverse others
     run_here =
         ap run_of (gone_over source start prefix TableLine ∙ append-nil (reverse prefix) ∙ reverse-append k.before others)
-        ∙ run_all others (reverse k.before) (pass_front (is TableLine) others ((TableLine, line) ∷ []) (subst (λ (us : List KindedToken). AllPass (is TableLine) us) are (all_lines lines k.are_lines)))
+        ∙ run_all others (reverse k.before) (pass_prefix (is TableLine) others ((TableLine, line) ∷ []) (subst (λ (us : List KindedToken). AllPass (is TableLine) us) are (all_lines lines k.are_lines)))
         ∙ ap (λ (us : List KindedToken). reverse others ++ us) (run_none k.before k.none_before) ∙ append-nil (reverse others)
 
     lines_here : lines_with source here.before (TableLine, line) ≡ lines
@@ -112,7 +112,7 @@ module _ (limit : ℕ) (source : List ℕ) (tokens : List KindedToken) (sound : 
     ahead = kind_ahead k.following End
 
     no_line_ahead : is TableLine ahead ≡ false
-    no_line_ahead = not_true (is TableLine ahead) (λ h. k.none_behind (sym (same_kind TableLine ahead h)))
+    no_line_ahead = not_true (is TableLine ahead) (λ h. k.none_after (sym (same_kind TableLine ahead h)))
 
     no_fault_here : (fault : SourceFault) → IsTableLineFault limit source (table_name here.before) here.labels lines fault → ⊥
     no_fault_here fault f =
@@ -131,7 +131,7 @@ module _ (limit : ℕ) (source : List ℕ) (tokens : List KindedToken) (sound : 
     labels_stay : Stay past.labels last_labels
     labels_stay =
         subst (λ (w : ReaderState). Stay past.labels w.labels)
-        (sym (ap (λ (us : List KindedToken). reader_after_all source start us End) tokens_are ∙ walk_append (reader_after source) start prefix ((TableLine, line) ∷ k.following) End))
+        (sym (ap (λ (us : List KindedToken). reader_after_all source start us End) tokens_are ∙ read_state_append (reader_after source) start prefix ((TableLine, line) ∷ k.following) End))
         (record { stays = λ text n h. labels_kept source past k.following End text n h })
 
     placed : AreThere last_labels (label_texts (parts_of_tokens source lines))
@@ -172,10 +172,10 @@ module _ (limit : ℕ) (source : List ℕ) (tokens : List KindedToken) (none : (
         λ fault f. none fault (record { prefix = prefix; rest = rest; stops = stops; cause = inl (record { before = before; token = t; following = left; parts = e; are_sound = s; is_faulty = f }) }) in
         let more : AreTokensFaultless limit source start (before ++ t ∷ []) ahead = sound_append (source_rule (limit, source)) start before (t ∷ []) ahead s (here, tt) in
         let others = sound_on (before ++ t ∷ []) left (e ∙ sym (append_assoc before (t ∷ []) left)) more in
-        (here, subst (λ (w : ReaderState). AreTokensFaultless limit source w left (kind_ahead rest End)) (walk_append (reader_after source) start before (t ∷ []) ahead) others)
+        (here, subst (λ (w : ReaderState). AreTokensFaultless limit source w left (kind_ahead rest End)) (read_state_append (reader_after source) start before (t ∷ []) ahead) others)
 
-    pub sound_front : AreTokensFaultless limit source start prefix (kind_ahead rest End)
-    sound_front = sound_on [] prefix refl tt
+    pub sound_prefix : AreTokensFaultless limit source start prefix (kind_ahead rest End)
+    sound_prefix = sound_on [] prefix refl tt
 
 pub record SomeProgram (limit : ℕ) (source : List ℕ) : Type 0 where
   pub view : ProgramView
@@ -192,14 +192,14 @@ module _ (limit : ℕ) (source : List ℕ) (none : (fault : SourceFault) → IsS
           prefix = prefix;
           rest = rest;
           stops = stops;
-          cause = inr (record { needs = needs; are_sound = sound_front limit source (kinded_tokens source tokens) refused prefix rest stops; is = refl });
+          cause = inr (record { needs = needs; are_sound = sound_prefix limit source (kinded_tokens source tokens) refused prefix rest stops; is = refl });
         })
 
     by_end : (tree : Derivation) (rest : List KindedToken) → IsTree productions (the Program) tree → Stops productions (the Program) (kinded_tokens source tokens) (yield tree) rest → (b : Bool) → is End (kind_ahead rest End) ≡ b → SomeProgram limit source
     by_end tree rest is_tree stops true e =
         let at_end : kind_ahead rest End ≡ End = sym (same_kind End (kind_ahead rest End) e) in
         let ended = has_end source tokens are in
-        let sound : AreTokensFaultless limit source start (yield tree) End = subst (λ (t : Terminal). AreTokensFaultless limit source start (yield tree) t) at_end (sound_front limit source (kinded_tokens source tokens) refused (yield tree) rest stops) in
+        let sound : AreTokensFaultless limit source start (yield tree) End = subst (λ (t : Terminal). AreTokensFaultless limit source start (yield tree) t) at_end (sound_prefix limit source (kinded_tokens source tokens) refused (yield tree) rest stops) in
         let read_state = reader_after_all source start (yield tree) End in
         record {
           view = record { names = read_state.names; labels = read_state.labels; statements = statements_of source read_state.names read_state.labels tree };

@@ -40,7 +40,7 @@ use Rattle.gms_parse.specs.InnerMeanings.{IsLabelToken, IsEnteredRange, IsNotEnt
 use Rattle.gms_parse.proofs.TokenKinds.{leads_by_kind, unled_next}
 use Rattle.gms_parse.proofs.Steps.{got_by, gives_one, gives_both, gives_the, gives_none, gives_some, takes_next, refuses_the, refuses_first, refuses_second, refuses_some, refuses_token, refuses_memory}
 use Rattle.gms_parse.proofs.Nexts.{past, exact, leads_next, gives_exact, refuses_lacking, stays_by, plain_stays, stays_then}
-use Rattle.gms_parse.proofs.StateLemmas.{free_sound, room_for_none}
+use Rattle.gms_parse.proofs.StateLemmas.{free_sound, bound_for_none}
 
 -- ---- spelling
 
@@ -62,7 +62,7 @@ lacking_of labels texts text l = elim (order l.before l.text l.following texts t
 ]
 
 pub full_of : (labels : List (List ℕ)) (text : List ℕ) → ExceedsTable labels (text ∷ []) → IsFullFor labels text
-full_of labels text l = elim (lacking_of labels [] text l) [ earlier_one k ↦ absurd (room_for_none _ [] refl k) | this_one f ↦ f ]
+full_of labels text l = elim (lacking_of labels [] text l) [ earlier_one k ↦ absurd (bound_for_none _ [] refl k) | this_one f ↦ f ]
 
 -- the texts entered so far have these numbers
 pub record Entering (old now : List (List ℕ)) (texts : List (List ℕ)) (was numbers : List ℕ) : Type 0 where
@@ -71,7 +71,7 @@ pub record Entering (old now : List (List ℕ)) (texts : List (List ℕ)) (was n
   pub numbers_are : numbers ≡ was ++ map (λ text. or_0 (place_of now text)) texts
 
 pub entering_start : (old : List (List ℕ)) (was : List ℕ) → Entering old old [] was was
-entering_start old was = record { table = refl; within_bound = λ l. room_for_none _ [] refl l; numbers_are = sym (append-nil was) }
+entering_start old was = record { table = refl; within_bound = λ l. bound_for_none _ [] refl l; numbers_are = sym (append-nil was) }
 
 there_from : (labels : List (List ℕ)) (text : List ℕ) (o : Option ℕ) → place_of labels text ≡ o → is_some o ≡ true → (n : ℕ) × (place_of labels text ≡ Some n)
 there_from labels text (Some n) e h = (n, e)
@@ -167,7 +167,7 @@ module _ {reader : Reader} {at : ℕ} {old : Tables} {w : ReaderState} {first : 
     star_stays = stays_then begun_stays (plain_stays reader (past reader w Label first next) Star star middle refl begun_stays.has)
 
     begun_gives : {limit : ℕ} → Gives limit reader.source.now (token Label) w (seen_from reader at) (leaf (Label, first)) (past reader w Label first next) (seen_from reader next)
-    begun_gives = label_gives [] n begun_new h.holds (λ l. room_for_none _ [] refl l)
+    begun_gives = label_gives [] n begun_new h.holds (λ l. bound_for_none _ [] refl l)
 
     pub range_unfinished : {limit : ℕ} {e : SourceFaultOrMemory} → IsLacking (is Label) reader middle e → Refuses limit reader.source.now (the Range) w (seen_from reader at) e
     range_unfinished l = refuses_the Range (refuses_second begun_gives (refuses_some (leads_next (token Label) m) (refuses_second (gives_exact {kind = Star} m refl) (refuses_lacking l))))
@@ -235,7 +235,7 @@ no_members source tables was now first last lacking items bad =
     let texts : range_texts source (text_of_label source first) (text_of_label source last) ≡ [] = ap (λ c. cond c (members (text_of_label source first) (text_of_label source last)) []) lacking in
     record {
       table = ap (all_entered tables.labels) (sym texts);
-      within_bound = room_for_none tables.labels (range_texts source (text_of_label source first) (text_of_label source last)) texts;
+      within_bound = bound_for_none tables.labels (range_texts source (text_of_label source first) (text_of_label source last)) texts;
       labels = items ∙ sym (append-nil was.labels.items) ∙ ap (λ us. was.labels.items ++ map (λ text. or_0 (place_of tables.labels text)) us) (sym texts);
       are_there = subst (λ (us : List (List ℕ)). AreThere tables.labels us) (sym texts) tt;
       bad_range = bad ∙ sym (ap (λ b. was.bad_range || not b) lacking ∙ or-true was.bad_range);

@@ -70,8 +70,8 @@ pub begun_after : (source : List ℕ) (w : ReaderState) (token : KindedToken) (a
 begun_after source w token ahead h = (ap (λ c. cond c token.0 w.keyword) h, ap (λ c. cond c w.open_count w.level) h)
 
 -- no texts always fit into the table
-pub room_for_none : (labels texts : List (List ℕ)) → texts ≡ [] → ExceedsTable labels texts → ⊥
-room_for_none labels texts e l = some_there l.before l.text l.following (sym e ∙ l.parts)
+pub bound_for_none : (labels texts : List (List ℕ)) → texts ≡ [] → ExceedsTable labels texts → ⊥
+bound_for_none labels texts e l = some_there l.before l.text l.following (sym e ∙ l.parts)
 
 -- a token of the kind is no parenthesis, no number and no line of a table
 abbrev pub is_free : Terminal → Bool
@@ -90,13 +90,13 @@ free_sound limit source w kind token ahead h named within_bound fault (without_l
 -- a quiet token has no fault
 pub quiet_sound : (limit : ℕ) (source : List ℕ) (w : ReaderState) (kind : Terminal) (token : Token) (ahead : Terminal) → is_quiet kind ≡ true → (fault : SourceFault) → IsFaulty limit source w (kind, token) ahead fault → ⊥
 quiet_sound limit source w kind token ahead h =
-    free_sound limit source w kind token ahead (also is_quiet is_free refl kind h) (λ e d. let u = quiet_unnamed w kind h in cc) (room_for_none w.labels _ (mute_after source w kind token ahead (also is_quiet is_mute refl kind h)).1)
+    free_sound limit source w kind token ahead (also is_quiet is_free refl kind h) (λ e d. let u = quiet_unnamed w kind h in cc) (bound_for_none w.labels _ (mute_after source w kind token ahead (also is_quiet is_mute refl kind h)).1)
 
 -- a parenthesis that closes has no fault, where it does not end the head of a table
 pub closing_sound : (limit : ℕ) (source : List ℕ) (w : ReaderState) (token : Token) (ahead : Terminal) → (w.keyword ≡ Table → ends_statement ahead ≡ true → ⊥) → (fault : SourceFault) → IsFaulty limit source w (RightParen, token) ahead fault → ⊥
 closing_sound limit source w token ahead on fault (deep e d) = cc
 closing_sound limit source w token ahead on fault (out_of_range e d) = cc
 closing_sound limit source w token ahead on fault (many_names e d) = cc
-closing_sound limit source w token ahead on fault (many_labels e d) = room_for_none _ _ refl d
+closing_sound limit source w token ahead on fault (many_labels e d) = bound_for_none _ _ refl d
 closing_sound limit source w token ahead on fault (in_table e d f) = cc
 closing_sound limit source w token ahead on fault (without_lines e k f) = on k f

@@ -8,7 +8,7 @@ use Rattle.gms_grammar.specs.GamsGrammar.{productions}
 use Rattle.gms_grammar.specs.GamsLookAhead.{look_ahead}
 use Rattle.gms_grammar.specs.Rules as rules
 use Rattle.gms_grammar.proofs.Rules as steps
-pub use Rattle.gms_grammar.proofs.Rules.{ahead_append, takes_next, gives_both, gives_the, gives_left, gives_right, gives_none, gives_some, gives_no_more, gives_again, gives_as, by_cause, wrong_as, stuck_as, wrong_behind, stuck_behind, refuses_first, refuses_second, refuses_the, refuses_left, refuses_right, refuses_some, refuses_again, refuses_later, within_the, within_second, within_again, within_some, within_left, within_right, within_then}
+pub use Rattle.gms_grammar.proofs.Rules.{ahead_append, takes_next, gives_both, gives_the, gives_left, gives_right, gives_none, gives_some, gives_no_more, gives_again, gives_as, by_cause, wrong_as, stuck_as, wrong_after, stuck_after, refuses_first, refuses_second, refuses_the, refuses_left, refuses_right, refuses_some, refuses_again, refuses_later, within_the, within_second, within_again, within_some, within_left, within_right, within_then}
 use Rattle.gms_parse.specs.declared.fault.SourceFault.{SourceFault}
 use Rattle.gms_parse.specs.declared.fault.SourceFaultOrMemory.{SourceFaultOrMemory}
 use Rattle.gms_parse.specs.declared.fault.SourceFaultOrMemory.TheVariants.{Fault, Memory}

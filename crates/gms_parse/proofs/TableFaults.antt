@@ -27,21 +27,21 @@ error_is Labels = refl
 
 module _ (limit : ℕ) (labels : List (List ℕ)) where
   -- a sound part has no error
-  pub stands_not : (done before : List TablePart) (part : TablePart) (following : List TablePart) (error : TableError) → ArePartsFaultless limit labels done (before ++ (part ∷ following)) → IsPartFault limit labels (done ++ before) part error → ⊥
-  stands_not done [] part following error sound h = sound.0 error (subst (λ (ps : List TablePart). IsPartFault limit labels ps part error) (append-nil done) h)
-  stands_not done (p ∷ before) part following error sound h =
-      stands_not (done ++ p ∷ []) before part following error sound.1 (subst (λ (ps : List TablePart). IsPartFault limit labels ps part error) (sym (append_assoc done (p ∷ []) before)) h)
+  pub occurs_not : (done before : List TablePart) (part : TablePart) (following : List TablePart) (error : TableError) → ArePartsFaultless limit labels done (before ++ (part ∷ following)) → IsPartFault limit labels (done ++ before) part error → ⊥
+  occurs_not done [] part following error sound h = sound.0 error (subst (λ (ps : List TablePart). IsPartFault limit labels ps part error) (append-nil done) h)
+  occurs_not done (p ∷ before) part following error sound h =
+      occurs_not (done ++ p ∷ []) before part following error sound.1 (subst (λ (ps : List TablePart). IsPartFault limit labels ps part error) (sym (append_assoc done (p ∷ []) before)) h)
 
   -- two first faults of a table are one
   one_first : (parts : List TablePart) (one other : TableFault) → IsFirstPartFault limit labels parts one → IsFirstPartFault limit labels parts other → one ≡ other
   one_first parts one other f g = by (order f.before f.part f.following g.before g.part g.following (sym f.parts_are ∙ g.parts_are))
     where
       by : Order f.before f.part f.following g.before g.part g.following → one ≡ other
-      by (earlier w e k) = absurd (stands_not [] f.before f.part w one.error (subst (λ (ps : List TablePart). ArePartsFaultless limit labels [] ps) e g.sound) f.stands)
-      by (later w e k) = absurd (stands_not [] g.before g.part w other.error (subst (λ (ps : List TablePart). ArePartsFaultless limit labels [] ps) e f.sound) g.stands)
+      by (earlier w e k) = absurd (occurs_not [] f.before f.part w one.error (subst (λ (ps : List TablePart). ArePartsFaultless limit labels [] ps) e g.sound) f.occurs)
+      by (later w e k) = absurd (occurs_not [] g.before g.part w other.error (subst (λ (ps : List TablePart). ArePartsFaultless limit labels [] ps) e f.sound) g.occurs)
       by (at_once prefix part rest) =
-          let there : IsPartFault limit labels f.before f.part other.error = subst (λ (ps : List TablePart). IsPartFault limit labels ps f.part other.error) (sym prefix) (subst (λ (p : TablePart). IsPartFault limit labels g.before p other.error) (sym part) g.stands) in
-          let here : IsPartFault limit labels g.before g.part one.error = subst (λ (ps : List TablePart). IsPartFault limit labels ps g.part one.error) prefix (subst (λ (p : TablePart). IsPartFault limit labels f.before p one.error) part f.stands) in
+          let there : IsPartFault limit labels f.before f.part other.error = subst (λ (ps : List TablePart). IsPartFault limit labels ps f.part other.error) (sym prefix) (subst (λ (p : TablePart). IsPartFault limit labels g.before p other.error) (sym part) g.occurs) in
+          let here : IsPartFault limit labels g.before g.part one.error = subst (λ (ps : List TablePart). IsPartFault limit labels ps g.part one.error) prefix (subst (λ (p : TablePart). IsPartFault limit labels f.before p one.error) part f.occurs) in
           let less : table_error_code one.error ≤ table_error_code other.error = f.least other.error there in
           let more : table_error_code other.error ≤ table_error_code one.error = g.least one.error here in
           let codes : table_error_code one.error ≡ table_error_code other.error = omega (arith, less, more) in

@@ -30,7 +30,7 @@ module _ (limit : ℕ) (labels : List (List ℕ)) (parts : List TablePart) (none
     parts_are = e;
     sound = sound;
     at = refl;
-    stands = h;
+    occurs = h;
     least = λ other k. elim (cases_lt (table_error_code other) (table_error_code error)) [
       | inl less ↦ absurd (valid before part left e sound n other (omega (arith, l, less)) k)
       | inr more ↦ more
@@ -48,9 +48,9 @@ module _ (limit : ℕ) (labels : List (List ℕ)) (parts : List TablePart) (none
 
 -- ---- labels that have numbers
 
-placed_front : (labels u v : List (List ℕ)) → AreThere labels (u ++ v) → AreThere labels u
-placed_front labels [] v h = tt
-placed_front labels (t ∷ u) v h = (h.0, placed_front labels u v h.1)
+placed_prefix : (labels u v : List (List ℕ)) → AreThere labels (u ++ v) → AreThere labels u
+placed_prefix labels [] v h = tt
+placed_prefix labels (t ∷ u) v h = (h.0, placed_prefix labels u v h.1)
 
 placed_rest : (labels u v : List (List ℕ)) → AreThere labels (u ++ v) → AreThere labels v
 placed_rest labels [] v h = h
@@ -87,19 +87,19 @@ module _ (labels : List (List ℕ)) where
   names_placed : (words : List Word) → AreThere labels (label_texts (map name words)) → HavePlaces words
   names_placed [] h = tt
   names_placed (word ∷ words) h =
-      (placed_front labels (labels_of_word word) (label_texts (map name words)) h, names_placed words (placed_rest labels (labels_of_word word) (label_texts (map name words)) h))
+      (placed_prefix labels (labels_of_word word) (label_texts (map name words)) h, names_placed words (placed_rest labels (labels_of_word word) (label_texts (map name words)) h))
 
-  behind_names : (words : List Word) (rest : List TablePart) → CellsPlaced rest → CellsPlaced (map name words ++ rest)
-  behind_names [] rest h = h
-  behind_names (word ∷ words) rest h = behind_names words rest h
+  after_names : (words : List Word) (rest : List TablePart) → CellsPlaced rest → CellsPlaced (map name words ++ rest)
+  after_names [] rest h = h
+  after_names (word ∷ words) rest h = after_names words rest h
 
   cells_placed : (row : Word) (headings words : List Word) (rest : List TablePart) → CellPlaced row headings → CellsPlaced rest → CellsPlaced (map (cell row headings) words ++ rest)
   cells_placed row headings [] rest h k = k
   cells_placed row headings (word ∷ words) rest h k = (h, cells_placed row headings words rest h k)
 
-  texts_behind : (row : Word) (headings words : List Word) (rest : List TablePart) → label_texts (map (cell row headings) words ++ rest) ≡ label_texts rest
-  texts_behind row headings [] rest = refl
-  texts_behind row headings (word ∷ words) rest = texts_behind row headings words rest
+  texts_after : (row : Word) (headings words : List Word) (rest : List TablePart) → label_texts (map (cell row headings) words ++ rest) ≡ label_texts rest
+  texts_after row headings [] rest = refl
+  texts_after row headings (word ∷ words) rest = texts_after row headings words rest
 
   placed_under : (headings : List Word) (lines : List (List Word)) → HavePlaces headings → AreThere labels (label_texts (under headings lines)) → CellsPlaced (under headings lines)
   placed_under headings [] k h = tt
@@ -110,11 +110,11 @@ module _ (labels : List (List ℕ)) where
           CellsPlaced (cond b (map name words ++ under words lines) (name first ∷ (map (cell first headings) words ++ under headings lines)))
       go below true g =
           let split : AreThere labels (label_texts (map name words) ++ label_texts (under words lines)) = subst (λ (ts : List (List ℕ)). AreThere labels ts) (texts_of-append (map name words) (under words lines)) g in
-          let there = names_placed words (placed_front labels (label_texts (map name words)) (label_texts (under words lines)) split) in
-          behind_names words (under words lines) (below words there (placed_rest labels (label_texts (map name words)) (label_texts (under words lines)) split))
+          let there = names_placed words (placed_prefix labels (label_texts (map name words)) (label_texts (under words lines)) split) in
+          after_names words (under words lines) (below words there (placed_rest labels (label_texts (map name words)) (label_texts (under words lines)) split))
       go below false g =
-          let there : CellPlaced first headings = record { row_there = placed_front labels (labels_of_word first) (label_texts (map (cell first headings) words ++ under headings lines)) g; headings_there = k } in
-          let others : AreThere labels (label_texts (under headings lines)) = subst (λ (ts : List (List ℕ)). AreThere labels ts) (texts_behind first headings words (under headings lines)) (placed_rest labels (labels_of_word first) (label_texts (map (cell first headings) words ++ under headings lines)) g) in
+          let there : CellPlaced first headings = record { row_there = placed_prefix labels (labels_of_word first) (label_texts (map (cell first headings) words ++ under headings lines)) g; headings_there = k } in
+          let others : AreThere labels (label_texts (under headings lines)) = subst (λ (ts : List (List ℕ)). AreThere labels ts) (texts_after first headings words (under headings lines)) (placed_rest labels (labels_of_word first) (label_texts (map (cell first headings) words ++ under headings lines)) g) in
           cells_placed first headings words (under headings lines) there (below headings k others)
 
   pub placed_table : (lines : List (List Word)) → AreThere labels (label_texts (table_of lines)) → CellsPlaced (table_of lines)
@@ -122,8 +122,8 @@ module _ (labels : List (List ℕ)) where
   placed_table ([] ∷ lines) h = placed_table lines h
   placed_table ((first ∷ words) ∷ lines) h =
       let split : AreThere labels (label_texts (map name (first ∷ words)) ++ label_texts (under (first ∷ words) lines)) = subst (λ (ts : List (List ℕ)). AreThere labels ts) (texts_of-append (map name (first ∷ words)) (under (first ∷ words) lines)) h in
-      let there = names_placed (first ∷ words) (placed_front labels (label_texts (map name (first ∷ words))) (label_texts (under (first ∷ words) lines)) split) in
-      behind_names (first ∷ words) (under (first ∷ words) lines) (placed_under (first ∷ words) lines there (placed_rest labels (label_texts (map name (first ∷ words))) (label_texts (under (first ∷ words) lines)) split))
+      let there = names_placed (first ∷ words) (placed_prefix labels (label_texts (map name (first ∷ words))) (label_texts (under (first ∷ words) lines)) split) in
+      after_names (first ∷ words) (under (first ∷ words) lines) (placed_under (first ∷ words) lines there (placed_rest labels (label_texts (map name (first ∷ words))) (label_texts (under (first ∷ words) lines)) split))
 
   met_placed : (headings : List Word) (word : Word) → HavePlaces headings → HavePlaces (met headings word)
   met_placed [] word h = tt

@@ -56,7 +56,7 @@ use Rattle.gms_parse.proofs.TokenKinds.{same_kind}
 use Rattle.gms_parse.proofs.Alphabet.{AllPass, only, all_pass}
 use Rattle.gms_parse.proofs.Spelled.{lone_as}
 use Rattle.gms_parse.proofs.TableItems.{items_only}
-use Rattle.gms_parse.proofs.TableFaults.{stands_not}
+use Rattle.gms_parse.proofs.TableFaults.{occurs_not}
 use Rattle.gms_grammar.proofs.Orders.{some_there}
 use Rattle.gms_parse.proofs.Steps.{got_by, gives_one, gives_both, gives_the, gives_no_more, gives_again, refuses_first, refuses_second, refuses_the, refuses_again, refuses_later, refuses_token, refuses_memory}
 use Rattle.gms_parse.proofs.Nexts.{past, exact, gives_exact, begun_starts, earlier}
@@ -107,7 +107,7 @@ lines_more {reader} {at} {next} {following} {t} {lines} s n line number bytes fe
 }
 
 pub lines_end : {reader : Reader} {at next : ℕ} {lines : List Line} → SomeLines reader at lines next → leads productions look_ahead (token TableLine) (seen_from reader next) ≡ false → IsLines reader at lines next
-lines_end s unled = record { seen_lines = s.seen_lines; are_lines = s.are_lines; is = s.is; none_behind = unled; texts = s.texts; short = s.short; further = s.further }
+lines_end s unled = record { seen_lines = s.seen_lines; are_lines = s.are_lines; is = s.is; none_after = unled; texts = s.texts; short = s.short; further = s.further }
 
 -- ---- lines as tokens
 
@@ -370,7 +370,7 @@ module _ {limit : ℕ} {reader : Reader} {at start : ℕ} {t : Token} (w : Reade
           let ls = map lined (u ∷ us) in
           let parts : table_parts lines ≡ parts_of_tokens source ls = same_parts k ∙ ap (parts_of_tokens source) are in
           let same : seen_from reader after ≡ ls ++ seen_from reader next = k.is ∙ ap (λ vs. vs ++ seen_from reader next) are in
-          let g = lines_give limit source (seen_from reader next) k.none_behind u us d.following [] (next_place source (seen_from reader start)) at_lines (λ fault f. fault_none parts holds.labels tb.headed tb.sound fault f) in
+          let g = lines_give limit source (seen_from reader next) k.none_after u us d.following [] (next_place source (seen_from reader start)) at_lines (λ fault f. fault_none parts holds.labels tb.headed tb.sound fault f) in
           let labels : g.following.labels ≡ last.labels = g.labels ∙ ap₂ (λ a b. all_entered a (entries.label_texts b)) holds.labels (sym parts) ∙ sym tb.labels_are in
           table_got (u ∷ us) (subst (λ (vs : List KindedToken). Gives limit source (many (token TableLine)) d.following vs (lines_tree (u ∷ us)) g.following (seen_from reader next)) (sym same) g.gives)
           (record { open_count = g.open_count ∙ holds.open_count; names = g.names ∙ holds.names ∙ sym names; labels = labels }) k.further items
@@ -383,7 +383,7 @@ module _ {limit : ℕ} {reader : Reader} {at start : ℕ} {t : Token} (w : Reade
           fault_none parts labels headed clean fault (inl f) = headed (parts ∙ f.0)
           fault_none {ps} {ls} parts labels headed clean fault (inr f) =
               let first : IsFirstPartFault limit new.labels ps f.0 = subst (λ (x : List (List ℕ)). IsFirstPartFault limit x ps f.0) labels f.1 in
-              stands_not limit new.labels [] first.before first.part first.following f.0.error (subst (λ (x : List TablePart). entries.ArePartsFaultless limit new.labels [] x) (parts ∙ first.parts_are) clean) first.stands
+              occurs_not limit new.labels [] first.before first.part first.following f.0.error (subst (λ (x : List TablePart). entries.ArePartsFaultless limit new.labels [] x) (parts ∙ first.parts_are) clean) first.occurs
 
   -- ---- a table that is refused, and one that is read
 
@@ -414,7 +414,7 @@ module _ {limit : ℕ} {reader : Reader} {at start : ℕ} {t : Token} (w : Reade
         let same : seen_from reader after ≡ ls ++ seen_from reader next = k.is ∙ ap (λ vs. vs ++ seen_from reader next) are in
         let f = line_fault parts d.leaves.has.holds.labels r is in
         table_refused (refuses_second d.gives (subst (λ (vs : List KindedToken). Refuses limit reader.source.now (many (token TableLine)) d.following vs e) (sym same)
-        (lines_wrong limit reader.source.now (seen_from reader next) k.none_behind u us d.following [] place (at_lines d) f.0 f.1 e f.2)))
+        (lines_wrong limit reader.source.now (seen_from reader next) k.none_after u us d.following [] place (at_lines d) f.0 f.1 e f.2)))
       where
         line_fault : {ps : List TablePart} {labels : List (List ℕ)} → table_parts lines ≡ ps → labels ≡ new.labels → ((table_parts lines ≡ []) × (fault ≡ record { error = error.NoHeading; at = entries.nowhere })) ⊎ IsFirstPartFault limit new.labels (table_parts lines) fault → e ≡ table_fault_at fault.error fault.at (next_place reader.source.now (seen_from reader start)) →
             (told_of : SourceFault) × (((ps ≡ []) × (told_of ≡ record { error = source_error.Table NoHeading; at = next_place reader.source.now (seen_from reader start) })) ⊎ ((found : TableFault) × IsFirstPartFault limit labels ps found × (told_of ≡ record { error = error_of_table found.error; at = found.at }))) × (e ≡ Fault told_of)
@@ -424,7 +424,7 @@ module _ {limit : ℕ} {reader : Reader} {at start : ℕ} {t : Token} (w : Reade
         line_fault {ps} {labels} parts same (inr r) is =
             let place = next_place reader.source.now (seen_from reader start) in
             let first : IsFirstPartFault limit labels ps fault = subst (λ (x : List (List ℕ)). IsFirstPartFault limit x ps fault) (sym same) (subst (λ (x : List TablePart). IsFirstPartFault limit new.labels x fault) parts r) in
-            (record { error = error_of_table fault.error; at = fault.at }, inr (fault, first, refl), is ∙ told limit new.labels fault.error fault.at place r.before r.part r.stands)
+            (record { error = error_of_table fault.error; at = fault.at }, inr (fault, first, refl), is ∙ told limit new.labels fault.error fault.at place r.before r.part r.occurs)
 
     refused_by : (us : List Token) → k.seen_lines ≡ map lined us → {e : SourceFaultOrMemory} → IsTableRefused limit lines (ends_statement (kind_of (seen_from reader next))) new.labels (next_place reader.source.now (seen_from reader start)) e → Refuses limit reader.source.now (the TableStatement) w (seen_from reader at) e
     refused_by [] are r = refused_empty are (r.ended (no_seen are)) r.found r.refused r.told
@@ -439,7 +439,7 @@ module _ {limit : ℕ} {reader : Reader} {at start : ℕ} {t : Token} (w : Reade
       read_empty are (inl e) =
           let same : seen_from reader after ≡ seen_from reader next = k.is ∙ ap (λ vs. vs ++ seen_from reader next) are in
           let d = dd.0 (ends_is (seen_from reader after) ∙ ap (λ ts. ends_statement (kind_of ts)) same ∙ e.1) in
-          table_empty d value same k.none_behind k.further names e.3 items (items_are ∙ ap (map item_of_entry) e.2)
+          table_empty d value same k.none_after k.further names e.3 items (items_are ∙ ap (map item_of_entry) e.2)
       read_empty are (inr tb) = absurd (tb.headed (ap table_parts (no_seen are)))
 
       read_full : (u : Token) (us : List Token) → k.seen_lines ≡ map lined (u ∷ us) → ((lines ≡ []) × (ends_statement (kind_of (seen_from reader next)) ≡ false) × (es ≡ []) × (last.labels ≡ new.labels)) ⊎ IsTable limit value lines new.labels last.labels es →

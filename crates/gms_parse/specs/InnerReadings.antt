@@ -313,7 +313,7 @@ pub record IsLines (reader : Reader) (at : ℕ) (lines : List TableLine) (next :
   pub seen_lines : List KindedToken
   pub are_lines : All (λ line. line.0 ≡ terminal.TableLine) seen_lines
   pub is : seen_from reader at ≡ seen_lines ++ seen_from reader next
-  pub none_behind : leads productions look_ahead (token terminal.TableLine) (seen_from reader next) ≡ false
+  pub none_after : leads productions look_ahead (token terminal.TableLine) (seen_from reader next) ≡ false
   pub texts : map {B = ℕ × List ℕ} (λ line. (line.line, string_bytes line.text)) lines ≡ map {B = ℕ × List ℕ} (λ line. (line.1.at.line, token_text reader.source.now line.1)) seen_lines
   pub short : All (λ line. string_len line.text ≤ 32768) lines
   pub further : at ≤ next

@@ -43,7 +43,7 @@ pub record IsTableOf (tokens lines : List KindedToken) : Type 0 where
   pub are_lines : All (λ token. token.0 ≡ terminal.TableLine) lines
   pub some : lines ≢ []
   pub none_before : (others : List KindedToken) (token : KindedToken) → before ≡ others ++ token ∷ [] → token.0 ≢ terminal.TableLine
-  pub none_behind : kind_ahead following terminal.End ≢ terminal.TableLine
+  pub none_after : kind_ahead following terminal.End ≢ terminal.TableLine
 
 -- Another token is required after this prefix of a source: if only the end remains, the prefix is
 -- no program.

@@ -106,15 +106,15 @@ module _ (source : List ℕ) (names labels : List (List ℕ)) where
     -- what follows the closing parenthesis of a head: with a lag among the indices it is an
     -- assignment
     pub act_of_head : Target Number → DerivationTree (Terminal × Token) → Act Number
-    act_of_head target (node (left (pair _ tree))) = act_behind target tree
+    act_of_head target (node (left (pair _ tree))) = act_after target tree
     act_of_head target (node (right (pair _ (node (left (pair _ (node (pair _ (pair _ tree))))))))) = after_target target tree
-    act_of_head target (node (right (pair _ (node (right tree))))) = act_behind target tree
+    act_of_head target (node (right (pair _ (node (right tree))))) = act_after target tree
     act_of_head target _ = displays []
 
-    act_behind : Target Number → DerivationTree (Terminal × Token) → Act Number
-    act_behind target (node (left (pair _ tree))) = act_of_head target tree
-    act_behind target (node (right (pair _ tree))) = after_head target tree
-    act_behind target _ = displays []
+    act_after : Target Number → DerivationTree (Terminal × Token) → Act Number
+    act_after target (node (left (pair _ tree))) = act_of_head target tree
+    act_after target (node (right (pair _ tree))) = after_head target tree
+    act_after target _ = displays []
 
   -- the target of this name, with a suffix and indices
   abbrev pub target_at : DerivationTree (Terminal × Token) → Suffix → trees.Indices Number → Target Number

@@ -278,7 +278,7 @@ impl<'s> Reader<'s> {
         };
         let (first, mut next) = self.listed_item(tables, list, start)?;
         items.push(first)?;
-        while let Some(following) = self.behind_separator(next) {
+        while let Some(following) = self.after_separator(next) {
             let (item, after) = self.listed_item(tables, list, following)?;
             items.push(item)?;
             next = after;

@@ -153,7 +153,7 @@ impl<'s> Reader<'s> {
     }
 
     /// The place after the line end that may follow the last item of a declaration.
-    pub(crate) fn behind_last_item(&self, at: usize) -> usize
+    pub(crate) fn after_last_item(&self, at: usize) -> usize
         requires { IsReady self.now }
         ensures { IsNotFurther self.now at → IsAfterLast self.now at result }
     {
@@ -181,7 +181,7 @@ impl<'s> Reader<'s> {
             items.push(item)?;
             next = after;
         }
-        Ok((Sequence::new(items), self.behind_last_item(next)))
+        Ok((Sequence::new(items), self.after_last_item(next)))
     }
 
     /// Reads a declaration of names of a kind, by its keyword.

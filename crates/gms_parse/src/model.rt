@@ -21,7 +21,7 @@ impl<'s> Reader<'s> {
         let mut equations = Vec::new(self.alloc);
         let (first, mut next) = self.name(tables, at)?;
         equations.push(first)?;
-        while let Some(following) = self.behind_separator(next) {
+        while let Some(following) = self.after_separator(next) {
             let (equation, after) = self.name(tables, following)?;
             equations.push(equation)?;
             next = after;
@@ -76,6 +76,6 @@ impl<'s> Reader<'s> {
             next = after;
         }
         let models = Sequence::new(models);
-        Ok((Act::Model { models }, self.behind_last_item(next)))
+        Ok((Act::Model { models }, self.after_last_item(next)))
     }
 }

@@ -285,7 +285,7 @@ impl<'s> Reader<'s> {
     }
 
     /// The place after the comma or the line end between two parts of a list.
-    pub(crate) fn behind_separator(&self, at: usize) -> Option<usize>
+    pub(crate) fn after_separator(&self, at: usize) -> Option<usize>
         requires { IsReady self.now }
         ensures { MatchOption result
             (leads productions look_ahead (any_of (Comma ∷ Break ∷ [])) (seen_from self.now at) ≡ false)

@@ -58,10 +58,10 @@ module _ {F : Type 0} (v : F → Number) (program : Program F) (accepted : IsAcc
 
   of-define : (before : List (Stmt F)) (at : Place) (equation : Named) (indices : List (Index F)) (condition : Option (Expr F)) (left_at : Place) (left : Expr F) (side : Side) (right_at : Place) (right : Expr F) →
       FollowsIn program before (record { at = at; act = Define equation indices condition left_at left side right_at right }) → AllShort (defined_at at (Define equation indices condition left_at left side right_at right))
-  of-define before at equation indices condition left_at left side right_at right stands =
+  of-define before at equation indices condition left_at left side right_at right occurs =
       let statement : Stmt F = record { at = at; act = Define equation indices condition left_at left side right_at right } in
       let known = known_after v program accepted.0 (sound before) in
-      let clean = statement-clean known statement (after-sound v program accepted.0 before [] statement stands.0 (sym (ap (errors_after v program accepted.0 []) stands.1) ∙ accepted.1)) in
+      let clean = statement-clean known statement (after-sound v program accepted.0 before [] statement occurs.0 (sym (ap (errors_after v program accepted.0 []) occurs.1) ∙ accepted.1)) in
       let whole = subst (AreClean known) (uses-act statement known.state [] ∙ uses-Define known.state at [] equation indices condition left_at left side right_at right) clean in
       let few = (sound-use known (defining equation.name (index_list indices)) whole.0).2.few in
       let same = same-count (index_list indices) in
@@ -78,17 +78,17 @@ module _ {F : Type 0} (v : F → Number) (program : Program F) (accepted : IsAcc
       none = All-nil (IsShort {F = F})
 
       by : (layer : Act-F F (Act F) (Stmt F)) → Q (roll-Act F layer)
-      by (Act-F.Declare kind items) = subst Q (sym (rolls-Declare kind items)) (λ stands. none)
-      by (Act-F.Alias one other) = subst Q (sym (rolls-Alias one other)) (λ stands. none)
-      by (Act-F.Assign target condition right_at right) = subst Q (sym (rolls-Assign target condition right_at right)) (λ stands. none)
+      by (Act-F.Declare kind items) = subst Q (sym (rolls-Declare kind items)) (λ occurs. none)
+      by (Act-F.Alias one other) = subst Q (sym (rolls-Alias one other)) (λ occurs. none)
+      by (Act-F.Assign target condition right_at right) = subst Q (sym (rolls-Assign target condition right_at right)) (λ occurs. none)
       by (Act-F.Define equation indices condition left_at left side right_at right) =
           subst Q (sym (rolls-Define equation indices condition left_at left side right_at right)) (of-define before at equation indices condition left_at left side right_at right)
-      by (Act-F.Model models) = subst Q (sym (rolls-Model models)) (λ stands. none)
-      by (Act-F.Solve model method objective maximize) = subst Q (sym (rolls-Solve model method objective maximize)) (λ stands. none)
-      by (Act-F.Display items) = subst Q (sym (rolls-Display items)) (λ stands. none)
-      by (Act-F.Loop control body) = subst Q (sym (rolls-Loop control body)) (λ stands. none)
-      by (Act-F.Options settings) = subst Q (sym (rolls-Options settings)) (λ stands. none)
-      by (Act-F.Abort condition items) = subst Q (sym (rolls-Abort condition items)) (λ stands. none)
+      by (Act-F.Model models) = subst Q (sym (rolls-Model models)) (λ occurs. none)
+      by (Act-F.Solve model method objective maximize) = subst Q (sym (rolls-Solve model method objective maximize)) (λ occurs. none)
+      by (Act-F.Display items) = subst Q (sym (rolls-Display items)) (λ occurs. none)
+      by (Act-F.Loop control body) = subst Q (sym (rolls-Loop control body)) (λ occurs. none)
+      by (Act-F.Options settings) = subst Q (sym (rolls-Options settings)) (λ occurs. none)
+      by (Act-F.Abort condition items) = subst Q (sym (rolls-Abort condition items)) (λ occurs. none)
 
   from : (before statements : List (Stmt F)) → program.statements.items ≡ before ++ statements → AllShort (definitions statements)
   from before [] parts = All-nil (IsShort {F = F})

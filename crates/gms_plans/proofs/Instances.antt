@@ -85,38 +85,38 @@ module _ {F : Type 0} (v : F → Number) (limit : ℕ) (state : State) (at : Pla
 -- ---- the labels of its indices
 
 -- each of some sets stands for a label
-abbrev Stand : Pairs → List ℕ → Type 0
-Stand binding [] = Unit {0}
-Stand binding (set ∷ sets) = (is_some (label_of binding set) ≡ true) × Stand binding sets
+abbrev Occur : Pairs → List ℕ → Type 0
+Occur binding [] = Unit {0}
+Occur binding (set ∷ sets) = (is_some (label_of binding set) ≡ true) × Occur binding sets
 
-stand-more : (set label : ℕ) (pairs : Pairs) (sets : List ℕ) → Stand pairs sets → Stand ((set, label) ∷ pairs) sets
-stand-more set label pairs [] all = tt
-stand-more set label pairs (other ∷ sets) all = (by (set == other), stand-more set label pairs sets all.1)
+occur-more : (set label : ℕ) (pairs : Pairs) (sets : List ℕ) → Occur pairs sets → Occur ((set, label) ∷ pairs) sets
+occur-more set label pairs [] all = tt
+occur-more set label pairs (other ∷ sets) all = (by (set == other), occur-more set label pairs sets all.1)
   where
     by : (b : Bool) → is_some (cond b (Some label) (label_of pairs other)) ≡ true
     by true = refl
     by false = all.0
 
-paired-stand : (sets element : List ℕ) → length element ≡ length sets → Stand (paired sets element) sets
-paired-stand [] element long = tt
-paired-stand (set ∷ sets) [] long = absurd (omega (arith, long))
-paired-stand (set ∷ sets) (label ∷ element) long =
-    (ap (λ (b : Bool). is_some (cond b (Some label) (label_of (paired sets element) set))) (eq-eqb set set refl), stand-more set label (paired sets element) sets (paired-stand sets element (omega (arith, long))))
+paired-occur : (sets element : List ℕ) → length element ≡ length sets → Occur (paired sets element) sets
+paired-occur [] element long = tt
+paired-occur (set ∷ sets) [] long = absurd (omega (arith, long))
+paired-occur (set ∷ sets) (label ∷ element) long =
+    (ap (λ (b : Bool). is_some (cond b (Some label) (label_of (paired sets element) set))) (eq-eqb set set refl), occur-more set label (paired sets element) sets (paired-occur sets element (omega (arith, long))))
 
 -- what holds of each number once holds of all
-stand-unfiltered : (binding : Pairs) (n : ℕ) (sets : List ℕ) → is_some (label_of binding n) ≡ true → Stand binding (filter (λ m. not (m == n)) sets) → Stand binding sets
-stand-unfiltered binding n [] one all = tt
-stand-unfiltered binding n (set ∷ sets) one all = by (set == n) refl all (stand-unfiltered binding n sets one)
+occur-unfiltered : (binding : Pairs) (n : ℕ) (sets : List ℕ) → is_some (label_of binding n) ≡ true → Occur binding (filter (λ m. not (m == n)) sets) → Occur binding sets
+occur-unfiltered binding n [] one all = tt
+occur-unfiltered binding n (set ∷ sets) one all = by (set == n) refl all (occur-unfiltered binding n sets one)
   where
-    by : (b : Bool) → (set == n) ≡ b → Stand binding (cond (not b) (set ∷ filter (λ m. not (m == n)) sets) (filter (λ m. not (m == n)) sets)) → (Stand binding (filter (λ m. not (m == n)) sets) → Stand binding sets) → Stand binding (set ∷ sets)
+    by : (b : Bool) → (set == n) ≡ b → Occur binding (cond (not b) (set ∷ filter (λ m. not (m == n)) sets) (filter (λ m. not (m == n)) sets)) → (Occur binding (filter (λ m. not (m == n)) sets) → Occur binding sets) → Occur binding (set ∷ sets)
     by true same all rest =
         (subst (λ m. is_some (label_of binding m) ≡ true) (sym (eqb-true set n same)) one, rest all)
     by false other all rest = (all.0, rest all.1)
 
-stand-all : (binding : Pairs) (sets : List ℕ) → Stand binding (distinct_numbers sets) → Stand binding sets
-stand-all binding [] all = tt
-stand-all binding (set ∷ sets) all =
-    (all.0, stand-all binding sets (stand-unfiltered binding set (distinct_numbers sets) all.0 all.1))
+occur-all : (binding : Pairs) (sets : List ℕ) → Occur binding (distinct_numbers sets) → Occur binding sets
+occur-all binding [] all = tt
+occur-all binding (set ∷ sets) all =
+    (all.0, occur-all binding sets (occur-unfiltered binding set (distinct_numbers sets) all.0 all.1))
 
 module _ {F : Type 0} (v : F → Number) (limit : ℕ) (state : State) (binding : Pairs) where
   -- The labels of indices all exist.
@@ -140,7 +140,7 @@ module _ {F : Type 0} (v : F → Number) (limit : ℕ) (state : State) (binding 
         long = omega (arith, long, count);
       }
 
-  have-labels : (indices : tree.Indices F) → has_lag indices ≡ false → Stand binding (sets_among indices) → HaveLabels indices
+  have-labels : (indices : tree.Indices F) → has_lag indices ≡ false → Occur binding (sets_among indices) → HaveLabels indices
   have-labels tree.no_index none all = record { those = []; are = refl; there = refl; long = refl }
   have-labels (tree.label label rest) none all =
       with-label label (λ (is : tree.Indices F). tree.label label is) rest refl (omega arith) (have-labels rest none all)
@@ -177,8 +177,8 @@ module _ {F : Type 0} (v : F → Number) (limit : ℕ) (state : State) (point : 
 
   labels-there : IsShort d → (element : List ℕ) → has (elements state (sets_of_definition d)) element ≡ true → is_there (in_order (labels v limit state (bound_to d element) d.indices)) ≡ true
   labels-there short element there =
-      let stand = stand-all (bound_to d element) (sets_among d.indices) (paired-stand (sets_of_definition d) element (element-length state (sets_of_definition d) element there)) in
-      are-there v limit state (bound_to d element) d.indices short.few (have-labels v limit state (bound_to d element) d.indices short.no_lag stand)
+      let occur = occur-all (bound_to d element) (sets_among d.indices) (paired-occur (sets_of_definition d) element (element-length state (sets_of_definition d) element there)) in
+      are-there v limit state (bound_to d element) d.indices short.few (have-labels v limit state (bound_to d element) d.indices short.no_lag occur)
 
   pub keeps-satisfied : IsShort d → (found : List (List ℕ)) → domain v limit state [] d.at (control_over (sets_of_definition d) d.condition) ≡ Ok found → KeepsDefinition v limit state point d → Satisfied
   keeps-satisfied short found e keeps element there holds =

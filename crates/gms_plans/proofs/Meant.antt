@@ -79,7 +79,7 @@ module _ {F : Type 0} (v : F → Number) (limit : ℕ) (world : World F) (accept
       record {
         solve = solve;
         answer = answered.answer;
-        stands = answered.stands;
+        occurs = answered.occurs;
         is_so = end-is-so v limit world.program.statements.items state solve.model.name solve.objective.name solve.maximize solve.statement.at solved.lp (model-short v world.program accepted solve.model.name) (model-linear v limit world accepted state lasts solve.model.name) solve.program answered.lp answered.shows answered.answer.end
             (answer-proves v answered.lp limit solved.settings.iterlim Legal answered.answer (legal_under v limit answered.lp solved.settings.iterlim answered.rule answered.answer answered.is_answer));
       }

@@ -60,15 +60,15 @@ with_left c left = record { state = c.state; events = c.events; left = left; tak
 module _ {F : Type 0} where
   deeper : (depth : ℕ) (inner outer next : Stmt F) → IsNestedIn depth inner outer → IsIn (λ (s : Stmt F). s ≡ next) inner → IsNestedIn (suc depth) next outer
   deeper zero inner outer next same inside = subst (λ (s : Stmt F). IsIn (λ (t : Stmt F). t ≡ next) s) (sym same) inside
-  deeper (suc depth) inner outer next stands inside = record {
-    control = stands.control;
-    body = stands.body;
-    loop = stands.loop;
-    before = stands.before;
-    next = stands.next;
-    rest = stands.rest;
-    stands = stands.stands;
-    holds = deeper depth inner stands.next next stands.holds inside;
+  deeper (suc depth) inner outer next occurs inside = record {
+    control = occurs.control;
+    body = occurs.body;
+    loop = occurs.loop;
+    before = occurs.before;
+    next = occurs.next;
+    rest = occurs.rest;
+    occurs = occurs.occurs;
+    holds = deeper depth inner occurs.next next occurs.holds inside;
   }
 
 module _ {F : Type 0} (v : F → Number) (limit : ℕ) (world : World F) where
@@ -432,7 +432,7 @@ module _ {F : Type 0} (v : F → Number) (limit : ℕ) (world : World F) where
   body-of control body at of_program before rest next parts = record {
     before = of_program.before;
     outer = of_program.outer;
-    stands = of_program.stands;
+    occurs = of_program.occurs;
     depth = suc of_program.depth;
     inside = deeper of_program.depth (statement_at at (roll-Act F (Act-F.Loop control body))) of_program.outer next of_program.inside (record {
       control = control;
@@ -441,16 +441,16 @@ module _ {F : Type 0} (v : F → Number) (limit : ℕ) (world : World F) where
       before = before;
       next = next;
       rest = rest;
-      stands = parts;
+      occurs = parts;
       holds = refl;
     });
   }
 
   -- the statements of a list after others, where those of the list are in the program
   statements-do : (all before statements : List (Stmt F)) → all ≡ before ++ statements → ((first rest : List (Stmt F)) (s : Stmt F) → all ≡ first ++ s ∷ rest → IsStatementOf world.program s) → EachOf Q statements → EachOf DoesSo (map (of_statement v limit world) statements)
-  statements-do all before [] parts stand each = tt
-  statements-do all before (s ∷ statements) parts stand each =
-      (each.0 (stand before statements s parts), statements-do all (before ++ s ∷ []) statements (parts ∙ sym (append_assoc before (s ∷ []) statements)) stand each.1)
+  statements-do all before [] parts occur each = tt
+  statements-do all before (s ∷ statements) parts occur each =
+      (each.0 (occur before statements s parts), statements-do all (before ++ s ∷ []) statements (parts ∙ sym (append_assoc before (s ∷ []) statements)) occur each.1)
 
   by_loop : (control : Control F) (body : Vec (Stmt F) Global) → EachOf Q body.items → QAct (roll-Act F (Act-F.Loop control body))
   by_loop control body each =
@@ -500,4 +500,4 @@ module _ {F : Type 0} (v : F → Number) (limit : ℕ) (world : World F) where
   -- The last statements of a program, in sequence.
   pub last-do : (before statements : List (Stmt F)) → world.program.statements.items ≡ before ++ statements → DoesSo (in_sequence (map (of_statement v limit world) statements))
   last-do before statements parts =
-      all-do (map (of_statement v limit world) statements) (statements-do world.program.statements.items before statements parts (λ first rest s is. record { before = first; outer = s; stands = (rest, is); depth = 0; inside = refl }) (each-statement statements))
+      all-do (map (of_statement v limit world) statements) (statements-do world.program.statements.items before statements parts (λ first rest s is. record { before = first; outer = s; occurs = (rest, is); depth = 0; inside = refl }) (each-statement statements))

@@ -28,7 +28,7 @@ use Rattle.gms_rows.specs.Rows.{FormRow, rows_of_model}
 use Rattle.gms_rows.proofs.ColumnKeys.{among-ordered}
 use Rattle.gms_rows.proofs.Domains.{given, only_value}
 use Rattle.gms_rows.proofs.KeyLists.{keys-ordered}
-use Rattle.gms_rows.proofs.Placing.{stands-in_place, place-within}
+use Rattle.gms_rows.proofs.Placing.{occurs-in_place, place-within}
 use Rattle.gms_rows.proofs.Programs.{all-of_map, map-keeps, map-itself, keys-there}
 use Rattle.gms_plans.proofs.Bounds.{IsPlaced}
 
@@ -98,7 +98,7 @@ module _ (state : State) (rows : List FormRow) (objective : Key) (maximize : Boo
 
   objective-level : (plan : Key → Number) → value_of_column (map plan all_columns) (place_of_key all_columns objective) ≡ plan objective
   objective-level plan =
-      let at = stands-in_place all_columns up objective objective-there in
+      let at = occurs-in_place all_columns up objective objective-there in
       get_or-map plan all_columns (place_of_key all_columns objective) objective (whole (pos 0)) at.0 ∙ ap plan (at.1 objective)
 
   made-known : IsProgram objective maximize the_program

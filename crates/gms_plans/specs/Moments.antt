@@ -57,7 +57,7 @@ module _ {F : Type 0} (number_of : F → Number) (limit : ℕ) (world : World F)
   pub record IsAnsweredRightly (solved : Solved) : Type 0 where
     pub solve : IsSolve solved
     pub answer : Answer F
-    pub stands : slice_get answers solved.answer ≡ Some answer
+    pub occurs : slice_get answers solved.answer ≡ Some answer
     pub is_so : IsSo number_of limit (question_of solved solve) (end_numbers number_of answer.end)
 
   -- what the answer of an event says is true, if the event is a solve

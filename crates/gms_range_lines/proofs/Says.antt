@@ -43,8 +43,8 @@ module _ {F : Type 0} (value : F → Number) (limit : ℕ) (programs : List (Lp 
       subst (λ o. IfSome o (IsSomeAnswer value limit lp)) (slice_get_read answers (length answers) place answer refl in_answers is_answer) one
 
 -- three texts appended to another
-three_behind : (old a b c one two new : List ℕ) → one ≡ old ++ a → two ≡ one ++ b → new ≡ two ++ c → new ≡ old ++ (a ++ b ++ c)
-three_behind old a b c one two new first second third =
+three_after : (old a b c one two new : List ℕ) → one ≡ old ++ a → two ≡ one ++ b → new ≡ two ++ c → new ≡ old ++ (a ++ b ++ c)
+three_after old a b c one two new first second third =
     third ∙ ap (λ t. t ++ c) (second ∙ ap (λ t. t ++ b) first ∙ append_assoc old a b) ∙ append_assoc old (a ++ b) c
 
 module _ {F : Type 0} (value : F → Number) (names labels : List (List ℕ)) (limit solve : ℕ) (lp : Lp F) where
@@ -83,7 +83,7 @@ module _ {F : Type 0} (value : F → Number) (names labels : List (List ℕ)) (l
       let a : one ≡ old ++ ranges_line solve = first ∙ ap (λ t. old ++ t) head_is in
       let b : two ≡ one ++ right_text = second ∙ ap₂ (λ xs ys. one ++ right_lines names labels (map (row_numbers value) xs) ys) rows_are (ap (map (span_value value)) rights_are ∙ right) in
       let c : new ≡ two ++ cost_text = third ∙ ap₂ (λ xs ys. two ++ cost_lines names labels (map (column_numbers value) xs) ys) columns_are (ap (map (span_value value)) costs_are ∙ cost) in
-      (last, leads, three_behind old (ranges_line solve) right_text cost_text one two new a b c)
+      (last, leads, three_after old (ranges_line solve) right_text cost_text one two new a b c)
 
 -- ---- one solve more
 

@@ -142,15 +142,15 @@ module _ {F : Type 0} (v : F → Number) (limit : ℕ) (state : State) where
 
 -- ---- the positions of the name
 
-module _ {F : Type 0} (v : F → Number) (program : Program F) (before : List (Stmt F)) (statement : Stmt F) (stands : FollowsIn program before statement) where
+module _ {F : Type 0} (v : F → Number) (program : Program F) (before : List (Stmt F)) (statement : Stmt F) (occurs : FollowsIn program before statement) where
   abbrev then_state : State
   then_state = state_after v (length program.names) (sound before)
 
   grows-on : Grows then_state (loaded v program)
   grows-on =
-      let rest : List (Stmt F) = statement ∷ stands.0 in
+      let rest : List (Stmt F) = statement ∷ occurs.0 in
       let blank = blank_state (length program.names) in
-      subst (Grows then_state) (sym (ap (λ (all : List (Stmt F)). fold (after_statement v) blank (sound all)) stands.1 ∙ ap (fold (after_statement v) blank) (map-append (λ (statement : Stmt F). (statement, true)) before rest) ∙ fold-append (after_statement v) blank (sound before) (sound rest))) (grows-past v (sound rest) then_state)
+      subst (Grows then_state) (sym (ap (λ (all : List (Stmt F)). fold (after_statement v) blank (sound all)) occurs.1 ∙ ap (fold (after_statement v) blank) (map-append (λ (statement : Stmt F). (statement, true)) before rest) ∙ fold-append (after_statement v) blank (sound before) (sound rest))) (grows-past v (sound rest) then_state)
 
   fits-then : (n : ℕ) → IsFitting (symbol_at then_state n)
   fits-then n = (grows-past v (sound before) (blank_state (length program.names)) n (blank-fits (length program.names) n)).0
@@ -181,11 +181,11 @@ module _ {F : Type 0} (v : F → Number) (limit : ℕ) (program : Program F) (ac
   assigned-long statement target condition right_at right state binding all of_program is stays e =
       let before = of_program.before in
       let known : Known F = known_after v program accepted.0 (sound before) in
-      let inner = program-inner v program accepted.0 before of_program.outer statement of_program.depth accepted.1 of_program.stands of_program.inside in
+      let inner = program-inner v program accepted.0 before of_program.outer statement of_program.depth accepted.1 of_program.occurs of_program.inside in
       let whole = subst (AreClean known) (uses-act statement known.state inner.0 ∙ ap (λ (act : Act F). act_uses act known.state statement.at inner.0) is ∙ uses-Assign known.state statement.at inner.0 target condition right_at right) inner.1 in
       let used = sound-use known (assigning target.name target.suffix (index_list target.indices)) whole.0 in
       let count = used.2.count in
       let same = same-count (index_list target.indices) in
-      let domain_is = ap length ((follows-of (loaded v program) state stays target.name).domain ∙ same-domain v program before of_program.outer of_program.stands target.name used.0) in
+      let domain_is = ap length ((follows-of (loaded v program) state stays target.name).domain ∙ same-domain v program before of_program.outer of_program.occurs target.name used.0) in
       let long : number_of_indices (index_list target.indices) ≡ length (symbol_of state target.name).domain = omega (arith, count, same, domain_is) in
       subst (λ (n : ℕ). All (λ (given : List ℕ × Given). length given.0 ≡ n) all) long (given-long v limit state (target_of target) right_at (tree_of right) statement.at binding (option_map tree_of condition) all e)

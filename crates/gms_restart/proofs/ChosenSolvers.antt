@@ -55,7 +55,7 @@ use Rattle.gms_check.specs.Past.{Known, Past, with_item, with_name}
 use Rattle.gms_check.specs.Solves.{data_fault, defined_twice, model_type, not_defined, objective, option_range, unknown_solver}
 use Rattle.gms_check.specs.Contexts.{as_condition, as_denied, as_guarded, as_inner, as_number, as_part, as_side}
 use Rattle.gms_check.specs.InnerStatements.{act_uses}
-use Rattle.gms_check.specs.StatementUses.{UsesOfAct, UsesOfStatement, act_uses_step, index_list, left_uses, option_uses, right_standing, show_uses, statement_uses_step, statement_uses, with_left}
+use Rattle.gms_check.specs.StatementUses.{UsesOfAct, UsesOfStatement, act_uses_step, index_list, left_uses, option_uses, right_context, show_uses, statement_uses_step, statement_uses, with_left}
 use Rattle.gms_check.specs.Uses.{Use, Uses, multiplies, divides, raises, literal, reading, calling, folding, stepping, shifting, placing, failing, listing, showing, option_value, amount_uses, condition_uses, control_uses, later_steps, part_uses, place_by_mark, sets_of_control, shift_uses, steps, uses}
 use Rattle.gms_check.proofs.ActUses.{uses-act}
 use Rattle.gms_check.proofs.NoErrors.{AreClean, IsClean, are-clean}
@@ -221,7 +221,7 @@ module _ (selected : List (List ℕ)) where
   layer-fits (Act-F.Declare kind items) all among state at controlled = tt
   layer-fits (Act-F.Alias first second) all among state at controlled = (tt, (tt, tt))
   layer-fits (Act-F.Assign target condition right_at (Value right)) all among state at controlled =
-      (tt, fit-both (left_uses at (with_left controlled target.indices) target.indices condition) (uses (right_standing state target.name) right_at (with_left controlled target.indices) (tree_of right)) (left-fits at (with_left controlled target.indices) (index_list target.indices) (option_map tree_of condition)) (tree-fits (right_standing state target.name) right_at (with_left controlled target.indices) (tree_of right)))
+      (tt, fit-both (left_uses at (with_left controlled target.indices) target.indices condition) (uses (right_context state target.name) right_at (with_left controlled target.indices) (tree_of right)) (left-fits at (with_left controlled target.indices) (index_list target.indices) (option_map tree_of condition)) (tree-fits (right_context state target.name) right_at (with_left controlled target.indices) (tree_of right)))
   layer-fits (Act-F.Define equation indices condition left_at left side right_at right) all among state at controlled =
       let sets = with_left controlled indices in
       (tt, fit-both (left_uses at sets indices condition) (uses as_side left_at sets (tree_of left) ++ uses as_side right_at sets (tree_of right)) (left-fits at sets (index_list indices) (option_map tree_of condition)) (fit-both (uses as_side left_at sets (tree_of left)) (uses as_side right_at sets (tree_of right)) (tree-fits as_side left_at sets (tree_of left)) (tree-fits as_side right_at sets (tree_of right))))

@@ -23,7 +23,7 @@ use Rattle.gms_save_text.specs.Validity.{is_solver_name}
 use Rattle.gms_joint_source.specs.JointSources.{first_line, joint_source}
 use Rattle.gms_restart.specs.StatementLines.{AreNew, AreSaved, SeenNew, SeenSaved}
 use Rattle.gms_restart.proofs.NewTypes.{saved-prefix}
-use Rattle.gms_restart.proofs.SeenAlike.{new-types, seen-same, stand-for}
+use Rattle.gms_restart.proofs.SeenAlike.{new-types, seen-same, occur-for}
 use Rattle.gms_restart.proofs.Restarted.{Split, following-firsts, new-seen, saved-seen, split}
 use Rattle.gms_restart.specs.JointPrograms.{Continues}
 use Rattle.gms_restart.proofs.DeclaredNames.{declares-own}
@@ -92,7 +92,7 @@ module _ (most : ℕ) (source file : List ℕ) (saved : Program Frac) (world : W
         statements = parts.parts;
         assigns = assigned-are parts.firsts ∙ ap (flat_map (λ (v : Seen). assigned_of v.1)) alike ∙ sym (assigned-are saved.statements.items);
         labels = longer saved.labels whole.labels labels.0 labels.1;
-        has_all = begins-with frac_value (record { program = saved; solvers = world.solvers }) world parts.firsts parts.others whole-accepted few own parts.parts (stand-for parts.firsts saved.statements.items alike 0 world).states (new-types from saved whole parts.firsts parts.others world.solvers parts.first_seen few own parts.parts are_saved are_new none);
+        has_all = begins-with frac_value (record { program = saved; solvers = world.solvers }) world parts.firsts parts.others whole-accepted few own parts.parts (occur-for parts.firsts saved.statements.items alike 0 world).states (new-types from saved whole parts.firsts parts.others world.solvers parts.first_seen few own parts.parts are_saved are_new none);
       }
 
   writes-its : WritesItsLabels frac_value whole

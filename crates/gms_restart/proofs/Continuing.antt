@@ -35,7 +35,7 @@ use Rattle.gms_joint_source.proofs.KinPrograms.{statements_same}
 use Rattle.gms_run_laws.proofs.Padding.{test-of}
 use Rattle.gms_save.specs.JointErrors.{joint_errors}
 use Rattle.gms_joint_source.specs.JointSources.{BeginsWith, DerivesSource, HaveJointPrefix, attach, first_line, joint_source}
-use Rattle.gms_joint_source.proofs.JointDerivations.{begins_with, have_front, no_ends, own_seen, seen_own}
+use Rattle.gms_joint_source.proofs.JointDerivations.{begins_with, have_prefix, no_ends, own_seen, seen_own}
 use Rattle.gms_restart.specs.Restarts.{SaysTheSame, base_run, whole_run}
 use Rattle.gms_restart.specs.StatementLines.{SeenNew, SeenSaved}
 use Rattle.gms_restart.proofs.Restarted.{restarted}
@@ -165,54 +165,54 @@ module _ (limit : ℕ) (saved file : List ℕ) (first whole : ProgramView) (p : 
       begins_with saved file p.tokens q.tokens p.are_tokens q.are_tokens p.is.tree own-derives q.is.tree (record { end = q.is.end; is_tree = q.is.is_tree; yields = q.is.tokens_are })
 
   -- the derivation of the text after the saved program
-  abbrev behind_tree : Derivation
-  behind_tree = more (pair (leaf begins.semicolon) begins.next) begins.last
+  abbrev after_tree : Derivation
+  after_tree = more (pair (leaf begins.semicolon) begins.next) begins.last
 
   own-tree : IsTree productions (the Program) (node (pair begins.segment begins.others))
   own-tree = subst (λ (t : Derivation). IsTree productions (the Program) t) begins.first_is p.is.is_tree
 
-  whole-tree : IsTree productions (the Program) (node (pair begins.segment (attach begins.others behind_tree)))
+  whole-tree : IsTree productions (the Program) (node (pair begins.segment (attach begins.others after_tree)))
   whole-tree = subst (λ (t : Derivation). IsTree productions (the Program) t) begins.whole_is q.is.is_tree
 
-  following-is : IsTree productions Segments behind_tree
-  following-is = attached-tree begins.others behind_tree own-tree.1 whole-tree.1
+  following-is : IsTree productions Segments after_tree
+  following-is = attached-tree begins.others after_tree own-tree.1 whole-tree.1
 
   -- its tokens
   following-yield : yield q.is.tree ≡ yield p.is.tree ++ (begins.semicolon ∷ (yield begins.next ++ yield begins.last))
   following-yield =
       ap (λ (t : Derivation). yield t) begins.whole_is
-      ∙ ap (λ (ts : List KindedToken). yield begins.segment ++ ts) (attached-yield begins.others behind_tree own-tree.1)
+      ∙ ap (λ (ts : List KindedToken). yield begins.segment ++ ts) (attached-yield begins.others after_tree own-tree.1)
       ∙ sym (append_assoc (yield begins.segment) (yield begins.others) (begins.semicolon ∷ (yield begins.next ++ yield begins.last)))
       ∙ ap (λ (t : Derivation). yield t ++ (begins.semicolon ∷ (yield begins.next ++ yield begins.last))) (sym begins.first_is)
 
-  saved_front : HaveJointPrefix saved p.tokens q.tokens
-  saved_front = have_front saved file p.tokens q.tokens p.are_tokens q.are_tokens
+  saved_prefix : HaveJointPrefix saved p.tokens q.tokens
+  saved_prefix = have_prefix saved file p.tokens q.tokens p.are_tokens q.are_tokens
 
-  abbrev those_behind : List Token
-  those_behind = saved_front.semicolon ∷ saved_front.others
+  abbrev those_after : List Token
+  those_after = saved_prefix.semicolon ∷ saved_prefix.others
 
-  tokens-are : q.tokens ≡ saved_front.own ++ those_behind
+  tokens-are : q.tokens ≡ saved_prefix.own ++ those_after
   tokens-are =
-      saved_front.joint_are
-      ∙ ap (λ (es : List Token). (saved_front.own ++ es) ++ those_behind) (no_ends saved file p.tokens q.tokens p.are_tokens q.are_tokens p.is.tree own-derives saved_front)
-      ∙ ap (λ (os : List Token). os ++ those_behind) (append-nil saved_front.own)
+      saved_prefix.joint_are
+      ∙ ap (λ (es : List Token). (saved_prefix.own ++ es) ++ those_after) (no_ends saved file p.tokens q.tokens p.are_tokens q.are_tokens p.is.tree own-derives saved_prefix)
+      ∙ ap (λ (os : List Token). os ++ those_after) (append-nil saved_prefix.own)
 
   following-late : EachHas (IsLate from) (yield begins.next ++ yield begins.last)
   following-late =
       let last : List KindedToken = (terminal.End, q.is.end) ∷ [] in
       let those : List KindedToken = yield begins.next ++ yield begins.last in
-      let others : List KindedToken = kinded_tokens joint_text saved_front.others in
-      let placed : All (IsPlaced saved) (saved_front.own ++ end_token saved ∷ []) = subst (All (IsPlaced saved)) saved_front.tokens_are (tokens_placed saved p.tokens p.are_tokens) in
-      let own : kinded_tokens joint_text saved_front.own ≡ yield p.is.tree = own_seen saved (10 ∷ 59 ∷ 10 ∷ file) saved_front.own (end_token saved ∷ []) placed ∙ seen_own saved p.tokens saved_front.own p.is.tree saved_front.tokens_are own-derives in
-      let parts : kinded_tokens joint_text q.tokens ≡ yield p.is.tree ++ (see saved_front.semicolon ∷ others) =
-      ap (kinded_tokens joint_text) tokens-are ∙ map-append see saved_front.own those_behind ∙ ap (λ (ts : List KindedToken). ts ++ (see saved_front.semicolon ∷ others)) own in
-      let agree : see saved_front.semicolon ∷ others ≡ begins.semicolon ∷ (those ++ last) =
-      cancelled (yield p.is.tree) (see saved_front.semicolon ∷ others) (begins.semicolon ∷ (those ++ last))
+      let others : List KindedToken = kinded_tokens joint_text saved_prefix.others in
+      let placed : All (IsPlaced saved) (saved_prefix.own ++ end_token saved ∷ []) = subst (All (IsPlaced saved)) saved_prefix.tokens_are (tokens_placed saved p.tokens p.are_tokens) in
+      let own : kinded_tokens joint_text saved_prefix.own ≡ yield p.is.tree = own_seen saved (10 ∷ 59 ∷ 10 ∷ file) saved_prefix.own (end_token saved ∷ []) placed ∙ seen_own saved p.tokens saved_prefix.own p.is.tree saved_prefix.tokens_are own-derives in
+      let parts : kinded_tokens joint_text q.tokens ≡ yield p.is.tree ++ (see saved_prefix.semicolon ∷ others) =
+      ap (kinded_tokens joint_text) tokens-are ∙ map-append see saved_prefix.own those_after ∙ ap (λ (ts : List KindedToken). ts ++ (see saved_prefix.semicolon ∷ others)) own in
+      let agree : see saved_prefix.semicolon ∷ others ≡ begins.semicolon ∷ (those ++ last) =
+      cancelled (yield p.is.tree) (see saved_prefix.semicolon ∷ others) (begins.semicolon ∷ (those ++ last))
       (sym parts ∙ q.is.tokens_are ∙ ap (λ (ts : List KindedToken). ts ++ last) following-yield ∙ append_assoc (yield p.is.tree) (begins.semicolon ∷ those) last) in
       let rest : others ≡ those ++ last = cc in
-      let is_placed : All (IsPlaced joint_text) (saved_front.own ++ those_behind) = subst (All (IsPlaced joint_text)) tokens-are (tokens_placed joint_text q.tokens q.are_tokens) in
-      let others_placed : All (IsPlaced joint_text) saved_front.others = All-tail (IsPlaced joint_text) saved_front.semicolon saved_front.others (all-following (IsPlaced joint_text) saved_front.own those_behind is_placed) in
-      prefix-has (IsLate from) those last (subst (EachHas (IsLate from)) rest (seen-late saved file saved_front.others others_placed saved_front.below))
+      let is_placed : All (IsPlaced joint_text) (saved_prefix.own ++ those_after) = subst (All (IsPlaced joint_text)) tokens-are (tokens_placed joint_text q.tokens q.are_tokens) in
+      let others_placed : All (IsPlaced joint_text) saved_prefix.others = All-tail (IsPlaced joint_text) saved_prefix.semicolon saved_prefix.others (all-following (IsPlaced joint_text) saved_prefix.own those_after is_placed) in
+      prefix-has (IsLate from) those last (subst (EachHas (IsLate from)) rest (seen-late saved file saved_prefix.others others_placed saved_prefix.below))
 
   -- the statements of the file
   abbrev news : Statements Number
@@ -222,7 +222,7 @@ module _ (limit : ℕ) (saved file : List ℕ) (first whole : ProgramView) (p : 
   whole-statements =
       q.is.statements_are
       ∙ ap (statements_of joint_text whole.names whole.labels) begins.whole_is
-      ∙ ap (λ (s : Statements Number). followed_by (segment joint_text whole.names whole.labels begins.segment) s) (attached joint_text whole.names whole.labels begins.others behind_tree own-tree.1)
+      ∙ ap (λ (s : Statements Number). followed_by (segment joint_text whole.names whole.labels begins.segment) s) (attached joint_text whole.names whole.labels begins.others after_tree own-tree.1)
       ∙ sym (followed-all (segment joint_text whole.names whole.labels begins.segment) (segments joint_text whole.names whole.labels begins.others) news)
       ∙ ap (λ (t : Derivation). followed_by (statements_of joint_text whole.names whole.labels t) news) (sym begins.first_is)
       ∙ ap (λ (s : Statements Number). followed_by s news) (sym (p.is.statements_are ∙ statements_same saved joint_text first.names whole.names first.labels whole.labels (kin limit saved file first whole p q)))

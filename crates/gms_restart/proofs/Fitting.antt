@@ -39,7 +39,7 @@ use Rattle.gms_rows.proofs.Domains.{given, only_value}
 use Rattle.gms_save_text.specs.Validity.{fits_position, fits_domain}
 use Rattle.gms_run_laws.specs.Names.{Each}
 use Rattle.gms_restart.specs.Labels.{tree_labels, index_labels}
-use Rattle.gms_restart.proofs.Homes.{stands_few, members-given, index-known, DataStand, IsFixedAt, MayStand, is-label, set-stands, label-stands}
+use Rattle.gms_restart.proofs.Homes.{occurs_few, members-given, index-known, DataOccur, IsFixedAt, MayOccur, is-label, set-occurs, label-occurs}
 
 -- ---- lags
 
@@ -116,7 +116,7 @@ either-label (p ∷ binding) more set label e = by (p.0 == set) (λ e. either-la
 -- first state, with no member removed. An index set has members of single labels in each later
 -- state.
 pub record Ground (count : ℕ) (first : State) (assigned : ℕ → Bool) (s : State) : Type 0 where
-  pub starts : DataStand count first
+  pub starts : DataOccur count first
   pub fixed : (n : ℕ) → AreFixed assigned first (symbol_at first n).domain
   pub later : (n : ℕ) → has_no_declaration s n ≡ false → IsAfter (symbol_at s n) (symbol_at first n)
   pub based : (n : ℕ) → has_no_declaration s n ≡ false → has_no_declaration s (base_of s n) ≡ false
@@ -127,12 +127,12 @@ pub record Ground (count : ℕ) (first : State) (assigned : ℕ → Bool) (s : S
 -- domains, and a set that is not assigned has the members of the first state.
 pub record Context (count : ℕ) (first : State) (assigned : ℕ → Bool) (state : State) : Type 0 where
   pub stays : Stays first state
-  pub stand : (n : ℕ) (t : List ℕ) → has (given_in (symbol_at state n).content) t ≡ true → stands_few count first (symbol_at first n).domain t ≡ true
+  pub occur : (n : ℕ) (t : List ℕ) → has (given_in (symbol_at state n).content) t ≡ true → occurs_few count first (symbol_at first n).domain t ≡ true
   pub static : (n : ℕ) → assigned n ≡ false → members_in (symbol_at state n).content ≡ members_in (symbol_at first n).content
 
 module _ (count : ℕ) (first : State) (assigned : ℕ → Bool) where
   abbrev May : ℕ → ℕ → Type 0
-  May set label = MayStand count first assigned (base_of first set) label
+  May set label = MayOccur count first assigned (base_of first set) label
 
   -- the labels of a binding may stand for their sets
   abbrev pub Fits : Pairs → Type 0
@@ -143,8 +143,8 @@ module _ (count : ℕ) (first : State) (assigned : ℕ → Bool) where
     pub member-may : (set label : ℕ) → has (members_of state set) (label ∷ []) ≡ true → May set label
     member-may set label there =
         let base = base_of state set in
-        subst (λ n. MayStand count first assigned n label) ((context.stays set).alike set) (record {
-          domain = (and_parts (fits_domain count first (symbol_at first base).domain (label ∷ [])) true (context.stand base (label ∷ []) (members-given (symbol_at state base).content (label ∷ []) there))).0;
+        subst (λ n. MayOccur count first assigned n label) ((context.stays set).alike set) (record {
+          domain = (and_parts (fits_domain count first (symbol_at first base).domain (label ∷ [])) true (context.occur base (label ∷ []) (members-given (symbol_at state base).content (label ∷ []) there))).0;
           member = λ none. sym (ap (λ (members : List (List ℕ)). has members (label ∷ [])) (context.static base none)) ∙ there;
         })
 
@@ -235,34 +235,34 @@ module _ (count : ℕ) (first : State) (assigned : ℕ → Bool) where
     -- a set's label fits a position that the set fits
     set-at : (name : ℕ) (position : Option ℕ) (set l : ℕ) → IsFixedAt count first assigned position → is_index_set s set ≡ true → set_fits_position s declared (directly_above s declared) name position set ≡ true → May set l → (nat_lt l count ≡ true) × (fits_position first position l ≡ true)
     set-at name position set l fixed index fit may =
-        (is-label count first assigned (base_of first set) l may, set-stands count first assigned ground.starts s declared ground.later name position set l fixed (index-known s set index) fit may)
+        (is-label count first assigned (base_of first set) l may, set-occurs count first assigned ground.starts s declared ground.later name position set l fixed (index-known s set index) fit may)
 
-    pub labels-stand : (name : ℕ) (domain : List (Option ℕ)) (indices : tree.Indices F) (those : List (Option ℕ)) (t : List ℕ) → AreFixed assigned first domain → index_count indices ≡ length domain → All (λ index. is_index_set s index ≡ true) (index_sets indices) →
+    pub labels-occur : (name : ℕ) (domain : List (Option ℕ)) (indices : tree.Indices F) (those : List (Option ℕ)) (t : List ℕ) → AreFixed assigned first domain → index_count indices ≡ length domain → All (λ index. is_index_set s index ≡ true) (index_sets indices) →
         have_unfit_set s declared (directly_above s declared) name domain indices ≡ false → have_unfit_label s declared name domain indices ≡ false → Each (λ l. nat_lt l count) (index_labels indices) →
         in_order (labels v limit state binding indices) ≡ Ok those → all_there those ≡ Some t → fits_domain count first domain t ≡ true
-    labels-stand name [] tree.no_index those t fixed long sets below named own e is =
+    labels-occur name [] tree.no_index those t fixed long sets below named own e is =
         let same : ◌≡◌ {A = Option (List ℕ)} (Some []) (Some t) = ap all_there (only_value [] those e) ∙ is in
         let none : ◌≡◌ {A = List ℕ} [] t = cc in
         subst (λ u. fits_domain count first [] u ≡ true) none refl
-    labels-stand name (position ∷ domain) tree.no_index those t fixed long sets below named own e is = absurd (omega (arith, long))
-    labels-stand name [] (tree.label n rest) those t fixed long sets below named own e is = absurd (omega (arith, long))
-    labels-stand name [] (tree.set set rest) those t fixed long sets below named own e is = absurd (omega (arith, long))
-    labels-stand name [] (tree.lagged set op at amount rest) those t fixed long sets below named own e is = absurd (omega (arith, long))
-    labels-stand name (position ∷ domain) (tree.label n rest) those t fixed long sets below named own e is =
+    labels-occur name (position ∷ domain) tree.no_index those t fixed long sets below named own e is = absurd (omega (arith, long))
+    labels-occur name [] (tree.label n rest) those t fixed long sets below named own e is = absurd (omega (arith, long))
+    labels-occur name [] (tree.set set rest) those t fixed long sets below named own e is = absurd (omega (arith, long))
+    labels-occur name [] (tree.lagged set op at amount rest) those t fixed long sets below named own e is = absurd (omega (arith, long))
+    labels-occur name (position ∷ domain) (tree.label n rest) those t fixed long sets below named own e is =
         let one = given (in_order (labels v limit state binding rest)) (λ xs. Ok (Some n ∷ xs)) those e in
         let fixes = fixed-head position domain fixed in
         let fit = not-not (label_fits_position s declared name position n) (have_unfit_label s declared name domain rest) named in
-        one-more position domain (Some n) one.value t (λ l same. let at : n ≡ l = cc in subst (λ m. (nat_lt m count ≡ true) × (fits_position first position m ≡ true)) at (own.0, label-stands count first assigned ground.starts s declared ground.later ground.more name position n fit.0))
-        (λ u there. labels-stand name domain rest one.value u fixes.1 (omega (arith, long)) sets below fit.1 own.1 one.is there)
+        one-more position domain (Some n) one.value t (λ l same. let at : n ≡ l = cc in subst (λ m. (nat_lt m count ≡ true) × (fits_position first position m ≡ true)) at (own.0, label-occurs count first assigned ground.starts s declared ground.later ground.more name position n fit.0))
+        (λ u there. labels-occur name domain rest one.value u fixes.1 (omega (arith, long)) sets below fit.1 own.1 one.is there)
         (ap all_there (only_value (Some n ∷ one.value) those one.next_is) ∙ is)
-    labels-stand name (position ∷ domain) (tree.set set rest) those t fixed long sets below named own e is =
+    labels-occur name (position ∷ domain) (tree.set set rest) those t fixed long sets below named own e is =
         let one = given (in_order (labels v limit state binding rest)) (λ xs. Ok (label_of binding set ∷ xs)) those e in
         let fixes = fixed-head position domain fixed in
         let fit = not-not (set_fits_position s declared (directly_above s declared) name position set) (have_unfit_set s declared (directly_above s declared) name domain rest) below in
         one-more position domain (label_of binding set) one.value t (λ l there. set-at name position set l fixes.0 (All-head (λ index. is_index_set s index ≡ true) set (index_sets rest) sets) fit.0 (fits_all set l there))
-        (λ u there. labels-stand name domain rest one.value u fixes.1 (omega (arith, long)) (All-tail (λ index. is_index_set s index ≡ true) set (index_sets rest) sets) fit.1 named own one.is there)
+        (λ u there. labels-occur name domain rest one.value u fixes.1 (omega (arith, long)) (All-tail (λ index. is_index_set s index ≡ true) set (index_sets rest) sets) fit.1 named own one.is there)
         (ap all_there (only_value (label_of binding set ∷ one.value) those one.next_is) ∙ is)
-    labels-stand name (position ∷ domain) (tree.lagged set op at amount rest) those t fixed long sets below named own e is =
+    labels-occur name (position ∷ domain) (tree.lagged set op at amount rest) those t fixed long sets below named own e is =
         let first_one = given (value v limit state binding amount and_then reached_label state binding set op at) (λ o. in_order (labels v limit state binding rest) and_then λ xs. Ok (o ∷ xs)) those e in
         let amounts = given (value v limit state binding amount) (reached_label state binding set op at) first_one.value first_one.is in
         let one = given (in_order (labels v limit state binding rest)) (λ xs. Ok (first_one.value ∷ xs)) those first_one.next_is in
@@ -270,15 +270,15 @@ module _ (count : ℕ) (first : State) (assigned : ℕ → Bool) where
         let fit = not-not (set_fits_position s declared (directly_above s declared) name position set) (have_unfit_set s declared (directly_above s declared) name domain rest) below in
         let index = All-head (λ index. is_index_set s index ≡ true) set (index_sets rest) sets in
         one-more position domain first_one.value one.value t (λ l there. set-at name position set l fixes.0 index fit.0 (reached-may set op at amounts.value l index (amounts.next_is ∙ ap {B = Answer (Option ℕ)} Ok there)))
-        (λ u there. labels-stand name domain rest one.value u fixes.1 (omega (arith, long)) (All-tail (λ index. is_index_set s index ≡ true) set (index_sets rest) sets) fit.1 named (each-right (λ l. nat_lt l count) (tree_labels amount) (index_labels rest) own) one.is there)
+        (λ u there. labels-occur name domain rest one.value u fixes.1 (omega (arith, long)) (All-tail (λ index. is_index_set s index ≡ true) set (index_sets rest) sets) fit.1 named (each-right (λ l. nat_lt l count) (tree_labels amount) (index_labels rest) own) one.is there)
         (ap all_there (only_value (first_one.value ∷ one.value) those one.next_is) ∙ is)
 
     -- the tuple of indices
-    pub tuple-stands : (name : ℕ) (domain : List (Option ℕ)) (indices : tree.Indices F) (those : List (Option ℕ)) (t : List ℕ) → AreFixed assigned first domain → index_count indices ≡ length domain → All (λ index. is_index_set s index ≡ true) (index_sets indices) →
+    pub tuple-occurs : (name : ℕ) (domain : List (Option ℕ)) (indices : tree.Indices F) (those : List (Option ℕ)) (t : List ℕ) → AreFixed assigned first domain → index_count indices ≡ length domain → All (λ index. is_index_set s index ≡ true) (index_sets indices) →
         have_unfit_set s declared (directly_above s declared) name domain indices ≡ false → have_unfit_label s declared name domain indices ≡ false → Each (λ l. nat_lt l count) (index_labels indices) →
         in_order (labels v limit state binding indices) ≡ Ok those → tuple_of those ≡ Some t → fits_domain count first domain t ≡ true
-    tuple-stands name domain indices those t fixed long sets below named own e is = by (nat_le (length those) 10) is
+    tuple-occurs name domain indices those t fixed long sets below named own e is = by (nat_le (length those) 10) is
       where
         by : (b : Bool) → (if b then all_there those else None) ≡ Some t → fits_domain count first domain t ≡ true
-        by true is = labels-stand name domain indices those t fixed long sets below named own e is
+        by true is = labels-occur name domain indices those t fixed long sets below named own e is
         by false is = absurd (cc)

@@ -33,7 +33,7 @@ use Rattle.gms_run_laws.proofs.Padding.{test-of}
 use Rattle.gms_run_laws.specs.LastStates.{AreFixed, IsFixedSet, FitPositions, names_assigned}
 use Rattle.gms_run_laws.specs.Reached.{at_first}
 use Rattle.gms_run_laws.proofs.FewPositions.{few-given}
-use Rattle.gms_run_laws.proofs.LoadedPositions.{loaded-stands}
+use Rattle.gms_run_laws.proofs.LoadedPositions.{loaded-occurs}
 use Rattle.gms_run_laws.proofs.StaticDomains.{loaded-fixed}
 use Rattle.gms_run_laws.proofs.TidyLoaded.{loaded-well}
 use Rattle.gms_run_laws.proofs.Tidying.{has-long}
@@ -42,19 +42,19 @@ use Rattle.gms_save_text.specs.Validity.{emptied, fits_position, fits_domain}
 use Rattle.gms_restart.specs.Labels.{HasItsLabels}
 use Rattle.gms_restart.proofs.Fitting.{Ground}
 use Rattle.gms_restart.proofs.Growth.{Member, member-sound, closed-after}
-use Rattle.gms_restart.proofs.Homes.{DataStand}
+use Rattle.gms_restart.proofs.Homes.{DataOccur}
 
 -- ---- tuples
 
 -- a tuple of as many labels as the domain has positions, each in the program and fitting its
 -- position, is in the domain
-stand-all : (count : ℕ) (state : State) (domain : List (Option ℕ)) (t : List ℕ) → length t ≡ length domain → FitPositions state domain t → Each (λ label. nat_lt label count) t → fits_domain count state domain t ≡ true
-stand-all count state [] [] long at own = refl
-stand-all count state [] (label ∷ t) long at own = absurd (omega (arith, long))
-stand-all count state (position ∷ domain) [] long at own = absurd (omega (arith, long))
-stand-all count state (position ∷ domain) (label ∷ t) long at own =
+occur-all : (count : ℕ) (state : State) (domain : List (Option ℕ)) (t : List ℕ) → length t ≡ length domain → FitPositions state domain t → Each (λ label. nat_lt label count) t → fits_domain count state domain t ≡ true
+occur-all count state [] [] long at own = refl
+occur-all count state [] (label ∷ t) long at own = absurd (omega (arith, long))
+occur-all count state (position ∷ domain) [] long at own = absurd (omega (arith, long))
+occur-all count state (position ∷ domain) (label ∷ t) long at own =
     let rest : length t ≡ length domain = omega (arith, long) in
-    and_from (nat_lt label count) (fits_position state position label && fits_domain count state domain t) own.0 (and_from (fits_position state position label) (fits_domain count state domain t) at.0 (stand-all count state domain t rest at.1 own.1))
+    and_from (nat_lt label count) (fits_position state position label && fits_domain count state domain t) own.0 (and_from (fits_position state position label) (fits_domain count state domain t) at.0 (occur-all count state domain t rest at.1 own.1))
 
 -- what holds of all tuples holds of each member
 pub has-all : (P : List ℕ → Type 0) (tuples : List (List ℕ)) (t : List ℕ) → All P tuples → has tuples t ≡ true → P t
@@ -115,24 +115,24 @@ module _ {F : Type 0} (v : F → Number) (program : Program F) (accepted : IsAcc
 
   -- ---- data
 
-  pub data-stand : (labels : ℕ) → HasItsLabels labels program.statements.items first → DataStand labels first
-  data-stand labels own n t there =
+  pub data-occur : (labels : ℕ) → HasItsLabels labels program.statements.items first → DataOccur labels first
+  data-occur labels own n t there =
       and_from (fits_domain labels first (symbol_at first n).domain t) (nat_le (length t) 10)
-      (stand-all labels first (symbol_at first n).domain t (has-long (length (symbol_at first n).domain) (given_in (symbol_at first n).content) t ((loaded-well v program).tidy n).long there) (has-all (FitPositions first (symbol_at first n).domain) (given_in (symbol_at first n).content) t (loaded-stands v program n accepted) there) (own.given n t there))
+      (occur-all labels first (symbol_at first n).domain t (has-long (length (symbol_at first n).domain) (given_in (symbol_at first n).content) t ((loaded-well v program).tidy n).long there) (has-all (FitPositions first (symbol_at first n).domain) (given_in (symbol_at first n).content) t (loaded-occurs v program n accepted) there) (own.given n t there))
       (at-most-ten (length t) (has-all (λ (u : List ℕ). length u ≤ 10) (given_in (symbol_at first n).content) t (few-given v 0 (record { program = program; solvers = [] }) first n accepted at_first) there))
 
   -- ---- the state before a statement
 
-  module _ (before : List (Stmt F)) (statement : Stmt F) (stands : FollowsIn program before statement) where
+  module _ (before : List (Stmt F)) (statement : Stmt F) (occurs : FollowsIn program before statement) where
     abbrev now : State
     now = state_after v count (sound before)
 
     abbrev rest : List (Stmt F)
-    rest = statement ∷ stands.0
+    rest = statement ∷ occurs.0
 
     goes-on : first ≡ fold (after_statement v) now (sound rest)
     goes-on =
-        ap (λ (all : List (Stmt F)). fold (after_statement v) (blank_state count) (sound all)) stands.1
+        ap (λ (all : List (Stmt F)). fold (after_statement v) (blank_state count) (sound all)) occurs.1
         ∙ ap (fold (after_statement v) (blank_state count)) (map-append {B = Stmt F × Bool} (λ (s : Stmt F). (s, true)) before rest)
         ∙ fold-append (after_statement v) (blank_state count) (sound before) (sound rest)
 
@@ -151,14 +151,14 @@ module _ {F : Type 0} (v : F → Number) (program : Program F) (accepted : IsAcc
 
     simple-then : (state : State) → Stays first state → (set : ℕ) → is_index_set now set ≡ true → IsSimple state set
     simple-then state stays set index =
-        let over = index-set-loaded v program before statement stands set index in
+        let over = index-set-loaded v program before statement occurs set index in
         let follows = follows-of first state stays set in
         let singles = follows.singles over.position over.labels in
         (follows.ordered over.ordered, λ member there. All-contains (λ (t : List ℕ). length t ≡ 1) (members_of state set) member singles (Contains-has (members_of state set) member there))
 
     pub ground-then : (labels : ℕ) → HasItsLabels labels program.statements.items first → Ground labels first among now
     ground-then labels own = record {
-      starts = data-stand labels own;
+      starts = data-occur labels own;
       fixed = fixed-positions;
       later = later-then;
       based = λ n known. not-true (is_undeclared (symbol_of now n).content) (closed-after v count before n (ap not known));

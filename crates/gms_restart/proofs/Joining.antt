@@ -27,7 +27,7 @@ all-taken left taken count none total =
 
 -- Statements stand for others in a world: they lead to the same states, define the same equations
 -- and models, and run alike.
-pub record StandsFor {F : Type 0} (v : F → Number) (limit : ℕ) (world : World F) (firsts statements : List (Stmt F)) : Type 0 where
+pub record OccursFor {F : Type 0} (v : F → Number) (limit : ℕ) (world : World F) (firsts statements : List (Stmt F)) : Type 0 where
   pub states : (count : ℕ) → state_after v count (sound firsts) ≡ state_after v count (sound statements)
   pub define : (others : List (Stmt F)) (m : ℕ) → definitions_of_model (firsts ++ others) m ≡ definitions_of_model (statements ++ others) m
   pub defined : (q : ℕ) → defined_in firsts q ≡ defined_in statements q
@@ -49,13 +49,13 @@ module _ {F : Type 0} (v : F → Number) (limit : ℕ) (saved joint : World F) (
     pub taken : first_run.taken ≡ length answers
 
   -- a program whose first statements stand for those of the saved one
-  pub joins : IsAccepted v saved.program → IsAccepted v joint.program → length saved.program.names ≤ length joint.program.names → DeclaresItsOwn saved.program → joint.program.statements.items ≡ firsts ++ others → StandsFor v limit joint firsts saved.program.statements.items → TypesNone (loaded v saved.program) others → joint.solvers ≡ saved.solvers →
+  pub joins : IsAccepted v saved.program → IsAccepted v joint.program → length saved.program.names ≤ length joint.program.names → DeclaresItsOwn saved.program → joint.program.statements.items ≡ firsts ++ others → OccursFor v limit joint firsts saved.program.statements.items → TypesNone (loaded v saved.program) others → joint.solvers ≡ saved.solvers →
       base.halted ≡ None → base.left ≡ [] → first_run.halted ≡ None → Joins
-  joins accepted both few own statements stands types solvers done none reached =
+  joins accepted both few own statements occurs types solvers done none reached =
       let prefix : Course = run_from v limit joint (loaded v joint.program) (answers ++ further) saved.program.statements.items in
-      let same : first_run ≡ prefix = stands.runs (loaded v joint.program) (answers ++ further) in
+      let same : first_run ≡ prefix = occurs.runs (loaded v joint.program) (answers ++ further) in
       let there : prefix.halted ≡ None = sym (ap (λ (c : Course). c.halted) same) ∙ reached in
-      let alike : EndsAlike (loaded v joint.program) further (length answers) base prefix = ends-alike v limit saved joint (loaded v saved.program) (loaded v joint.program) answers further saved.program.statements.items (solves-alike v saved joint others accepted both few own firsts statements (stands.define others) stands.defined solvers) (program-named v saved accepted) (loaded-closed v saved.program accepted) (begins-with v saved joint firsts others both few own statements stands.states types) done there in
+      let alike : EndsAlike (loaded v joint.program) further (length answers) base prefix = ends-alike v limit saved joint (loaded v saved.program) (loaded v joint.program) answers further saved.program.statements.items (solves-alike v saved joint others accepted both few own firsts statements (occurs.define others) occurs.defined solvers) (program-named v saved accepted) (loaded-closed v saved.program accepted) (begins-with v saved joint firsts others both few own statements occurs.states types) done there in
       record {
         is =
             ap (run_from v limit joint (loaded v joint.program) (answers ++ further)) statements

@@ -90,17 +90,17 @@ at-overlaid (x ∷ xs) (y ∷ ys) (suc n) many = at-overlaid xs ys n (omega arit
 -- Two symbols are of the same form: over the same domain, and as aliases of the same set.
 record AreAlike (a b : Symbol) : Type 0 where
   domain : a.domain ≡ b.domain
-  stands : (n : ℕ) → alias_target n a.content ≡ alias_target n b.content
+  occurs : (n : ℕ) → alias_target n a.content ≡ alias_target n b.content
 
 -- states that declare the same have such symbols
 same-form : (a b : State) (n : ℕ) → declared_symbols a ≡ declared_symbols b → AreAlike (symbol_at a n) (symbol_at b n)
 same-form a b n e = record {
   domain = ap (λ (s : Symbol). s.domain) (same-at a b n e);
-  stands = λ m. same-read (alias_target m) (keeps-following m) a b n e;
+  occurs = λ m. same-read (alias_target m) (keeps-following m) a b n e;
 }
 
 form-both : (a b c : Symbol) → AreAlike a b → AreAlike b c → AreAlike a c
-form-both a b c one two = record { domain = one.domain ∙ two.domain; stands = λ m. one.stands m ∙ two.stands m }
+form-both a b c one two = record { domain = one.domain ∙ two.domain; occurs = λ m. one.occurs m ∙ two.occurs m }
 
 -- a state has as many symbols as its declarations
 form-count : (a b : State) → declared_symbols a ≡ declared_symbols b → length a.symbols ≡ length (declared_symbols b)
@@ -155,7 +155,7 @@ module _ (first whole : Program Frac) (saved : State) (declares : declared_symbo
     where
       by : IsLater (symbol_at (declared_state first) n) (symbol_at (declared_state whole) n) → AreAlike (symbol_at (declared_state first) n) (symbol_at (declared_state whole) n)
       by (inl none) = absurd (let e : ◌≡◌ {A = Bool} true false = sym none ∙ is in cc)
-      by (inr after) = record { domain = sym after.domain; stands = λ m. sym (after.alike m) }
+      by (inr after) = record { domain = sym after.domain; occurs = λ m. sym (after.alike m) }
 
   abbrev now : State
   now = resumed frac_value saved whole
@@ -188,7 +188,7 @@ module _ (first whole : Program Frac) (saved : State) (declares : declared_symbo
   -- The state that is gone on from declares each name as the joint program does.
   pub all-alike : (name : ℕ) → IsAlike now (declared_state whole) name
   all-alike name =
-      let base : base_of now name ≡ base_of (declared_state whole) name = (form-now name).stands name in record {
+      let base : base_of now name ≡ base_of (declared_state whole) name = (form-now name).occurs name in record {
         base = base;
         positions = ap (λ n. length (symbol_at now n).domain) base ∙ ap (λ (d : List (Option ℕ)). length d) (form-now (base_of (declared_state whole) name)).domain;
       }

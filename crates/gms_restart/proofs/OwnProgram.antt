@@ -18,7 +18,7 @@ use Rattle.gms_parse.specs.Outcomes.{IsProgram}
 use Rattle.gms_parse.specs.Programs.{statements_of}
 use Rattle.gms_joint_source.proofs.Kinships.{program_kin}
 use Rattle.gms_joint_source.proofs.KinPrograms.{statements_same}
-use Rattle.gms_restart.proofs.ProgramNames.{alike-itself, behind_longer, placed-following}
+use Rattle.gms_restart.proofs.ProgramNames.{alike-itself, after_longer, placed-following}
 use Rattle.gms_run_laws.specs.Names.{Each}
 use Rattle.gms_run_laws.proofs.FormKeys.{EachHas}
 use Rattle.gms_run_laws.proofs.Padding.{test-of}
@@ -72,7 +72,7 @@ module _ (limit : ℕ) (source : List ℕ) (program : Program Frac) (is : IsProg
 
   none-written : program.labels ≡ [] → AllPass own (statements_of source program.names program.labels tree)
   none-written none =
-      let table = behind_longer (all_texts source) in
+      let table = after_longer (all_texts source) in
       let keep : (text : List ℕ) (n : ℕ) → place_of program.labels text ≡ Some n → place_of table text ≡ Some n = λ text n e. absurd (let z : ◌≡◌ {A = Option ℕ} None (Some n) = sym (ap (λ (ls : List (List ℕ)). place_of ls text) none) ∙ e in cc) in
       let kin = program_kin limit source source program.names program.names program.labels table (λ text n e. e) keep tree is.is.is_tree is.is.tables (record { names_are = is.is.names_are; labels_are = is.is.labels_are; parts = refl; alike = alike-itself source (yield tree) }) in
       let same : statements_of source program.names program.labels tree ≡ statements_of source program.names table tree = statements_same source source program.names program.names program.labels table kin in

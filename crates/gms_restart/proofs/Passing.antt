@@ -41,8 +41,8 @@ use Rattle.gms_run_laws.proofs.ElementLabels.{element-members}
 use Rattle.gms_run_laws.specs.LastStates.{AreFixed}
 use Rattle.gms_save_text.specs.Validity.{fits_domain}
 use Rattle.gms_restart.specs.Labels.{tree_labels, part_labels, index_labels, control_labels}
-use Rattle.gms_restart.proofs.Fitting.{Ground, Context, Fits, controlled-fits, domain-has, tuple-few, tuple-stands}
-use Rattle.gms_restart.proofs.Homes.{stands_few}
+use Rattle.gms_restart.proofs.Fitting.{Ground, Context, Fits, controlled-fits, domain-has, tuple-few, tuple-occurs}
+use Rattle.gms_restart.proofs.Homes.{occurs_few}
 
 pub ok-weaker : {A : Type 0} (P Q : A → Type 0) (a : Answer A) → OkHas P a → ((x : A) → P x → Q x) → OkHas Q a
 ok-weaker P Q (Ok x) has each = each x has
@@ -53,12 +53,12 @@ each-weaker P Q each [] all = tt
 each-weaker P Q each (x ∷ xs) all = (each x all.0, each-weaker P Q each xs all.1)
 
 -- a key whose tuple is in the domain of its name
-abbrev pub stands_key : ℕ → State → Key → Bool
-stands_key count first key = stands_few count first (symbol_of first key.symbol).domain key.tuple
+abbrev pub occurs_key : ℕ → State → Key → Bool
+occurs_key count first key = occurs_few count first (symbol_of first key.symbol).domain key.tuple
 
 module _ (count : ℕ) (first : State) (assigned : ℕ → Bool) {F : Type 0} (known : Known F) (above_is : known.above ≡ directly_above known.state known.declared) (ground : Ground count first assigned known.state) where
   abbrev ok : Key → Bool
-  ok = stands_key count first
+  ok = occurs_key count first
 
   -- labels of the program
   abbrev pub Below : List ℕ → Type 0
@@ -80,9 +80,9 @@ module _ (count : ℕ) (first : State) (assigned : ℕ → Bool) {F : Type 0} (k
         tuple : (those : List (Option ℕ)) → in_order (labels v limit state binding indices) ≡ Ok those → (o : Option (List ℕ)) → tuple_of those ≡ o → IsElement ok name o
         tuple those e None is = tt
         tuple those e (Some t) is =
-            subst (λ (ds : List (Option ℕ)). stands_few count first ds t ≡ true) same
+            subst (λ (ds : List (Option ℕ)). occurs_few count first ds t ≡ true) same
             (and_from (fits_domain count first (positions known.state name) t) (nat_le (length t) 10)
-            (tuple-stands count first assigned known.state ground known.declared v limit state context binding fits name (positions known.state name) indices those t (subst (λ (ds : List (Option ℕ)). AreFixed assigned first ds) (sym same) (ground.fixed (base_of first name))) are.count are.sets
+            (tuple-occurs count first assigned known.state ground known.declared v limit state context binding fits name (positions known.state name) indices those t (subst (λ (ds : List (Option ℕ)). AreFixed assigned first ds) (sym same) (ground.fixed (base_of first name))) are.count are.sets
             (sym (ap (λ (above : ℕ → Option ℕ). have_unfit_set known.state known.declared above name (positions known.state name) indices) above_is) ∙ are.below) are.labels own e is)
             (tuple-few those t is))
 
@@ -175,37 +175,37 @@ module _ (count : ℕ) (first : State) (assigned : ℕ → Bool) {F : Type 0} (k
     -- ---- assignments
 
     -- what is given is in the domain of its name
-    abbrev pub GivenStands : ℕ → List ℕ × Given → Type 0
-    GivenStands name given = ok (record { symbol = name; tuple = given.0 }) ≡ true
+    abbrev pub GivenOccurs : ℕ → List ℕ × Given → Type 0
+    GivenOccurs name given = ok (record { symbol = name; tuple = given.0 }) ≡ true
 
-    abbrev MayStandGiven : ℕ → Option (List ℕ × Given) → Type 0
-    MayStandGiven name None = Unit {0}
-    MayStandGiven name (Some given) = GivenStands name given
+    abbrev MayOccurGiven : ℕ → Option (List ℕ × Given) → Type 0
+    MayOccurGiven name None = Unit {0}
+    MayOccurGiven name (Some given) = GivenOccurs name given
 
-    there-stand : (name : ℕ) (given : List (Option (List ℕ × Given))) → EachHas (MayStandGiven name) given → EachHas (GivenStands name) (assigning.given_elements v limit state given)
-    there-stand name [] all = tt
-    there-stand name (None ∷ given) all = there-stand name given all.1
-    there-stand name (Some one ∷ given) all = (all.0, there-stand name given all.1)
+    there-occur : (name : ℕ) (given : List (Option (List ℕ × Given))) → EachHas (MayOccurGiven name) given → EachHas (GivenOccurs name) (assigning.given_elements v limit state given)
+    there-occur name [] all = tt
+    there-occur name (None ∷ given) all = there-occur name given all.1
+    there-occur name (Some one ∷ given) all = (all.0, there-occur name given all.1)
 
-    element-stands : (target : Target F) (right_at : Place) (right : tree.Tree F) (binding : Pairs) → OkHas (λ those. IsElement ok target.name (tuple_of those)) (in_order (labels v limit state binding target.indices)) → OkHas (MayStandGiven target.name) (assigning.element_under v limit state target right_at right binding)
-    element-stands target right_at right binding passes =
-        then-has (λ those. IsElement ok target.name (tuple_of those)) (MayStandGiven target.name) (in_order (labels v limit state binding target.indices)) (λ those. elim (tuple_of those) [ None ↦ Ok None | Some t ↦ assigning.given_under v limit state target right_at right binding and_then λ given. Ok (Some (t, given)) ]) passes (λ those is. by (tuple_of those) is)
+    element-occurs : (target : Target F) (right_at : Place) (right : tree.Tree F) (binding : Pairs) → OkHas (λ those. IsElement ok target.name (tuple_of those)) (in_order (labels v limit state binding target.indices)) → OkHas (MayOccurGiven target.name) (assigning.element_under v limit state target right_at right binding)
+    element-occurs target right_at right binding passes =
+        then-has (λ those. IsElement ok target.name (tuple_of those)) (MayOccurGiven target.name) (in_order (labels v limit state binding target.indices)) (λ those. elim (tuple_of those) [ None ↦ Ok None | Some t ↦ assigning.given_under v limit state target right_at right binding and_then λ given. Ok (Some (t, given)) ]) passes (λ those is. by (tuple_of those) is)
       where
-        by : (o : Option (List ℕ)) → IsElement ok target.name o → OkHas (MayStandGiven target.name) (elim o [ None ↦ Ok None | Some t ↦ assigning.given_under v limit state target right_at right binding and_then λ given. Ok (Some (t, given)) ])
+        by : (o : Option (List ℕ)) → IsElement ok target.name o → OkHas (MayOccurGiven target.name) (elim o [ None ↦ Ok None | Some t ↦ assigning.given_under v limit state target right_at right binding and_then λ given. Ok (Some (t, given)) ])
         by None is = tt
-        by (Some t) is = after-has (MayStandGiven target.name) (assigning.given_under v limit state target right_at right binding) (λ given. Ok (Some (t, given))) (λ given. is)
+        by (Some t) is = after-has (MayOccurGiven target.name) (assigning.given_under v limit state target right_at right binding) (λ given. Ok (Some (t, given))) (λ given. is)
 
     each-element : (target : Target F) (right_at : Place) (right : tree.Tree F) (sets : List ℕ) (binding : Pairs) (those : List (List ℕ)) → EachHas (λ element. OkHas (λ those. IsElement ok target.name (tuple_of those)) (in_order (labels v limit state (controlled binding sets element) target.indices))) those →
-        EachHas (OkHas (MayStandGiven target.name)) (map (λ element. assigning.element_under v limit state target right_at right (controlled binding sets element)) those)
+        EachHas (OkHas (MayOccurGiven target.name)) (map (λ element. assigning.element_under v limit state target right_at right (controlled binding sets element)) those)
     each-element target right_at right sets binding [] all = tt
     each-element target right_at right sets binding (element ∷ those) all =
-        (element-stands target right_at right (controlled binding sets element) all.0, each-element target right_at right sets binding those all.1)
+        (element-occurs target right_at right (controlled binding sets element) all.0, each-element target right_at right sets binding those all.1)
 
-    pub given-stand : (target : Target F) (at : Place) (binding : Pairs) (condition : Option (tree.Tree F)) (right_at : Place) (right : tree.Tree F) → Fits count first assigned binding → has_no_declaration known.state target.name ≡ false → AreIndices known target.name target.indices → Below (index_labels target.indices) → OkHas (EachHas (GivenStands target.name)) (assigning.given_by v limit state at binding target condition right_at right)
-    given-stand target at binding condition right_at right fits there are own =
+    pub given-occur : (target : Target F) (at : Place) (binding : Pairs) (condition : Option (tree.Tree F)) (right_at : Place) (right : tree.Tree F) → Fits count first assigned binding → has_no_declaration known.state target.name ≡ false → AreIndices known target.name target.indices → Below (index_labels target.indices) → OkHas (EachHas (GivenOccurs target.name)) (assigning.given_by v limit state at binding target condition right_at right)
+    given-occur target at binding condition right_at right fits there are own =
         let sets = assigning.newly_controlled binding target.indices in
         let element : List ℕ → Answer (Option (List ℕ × Given)) = λ element. assigning.element_under v limit state target right_at right (controlled binding sets element) in
         let index_sets_are = All-filter (λ set. is_none (label_of binding set)) (λ name. is_index_set known.state name ≡ true) (rows.distinct_numbers (rows.sets_among target.indices)) (All-distinct_numbers (λ name. is_index_set known.state name ≡ true) (rows.sets_among target.indices) (row-sets (λ name. is_index_set known.state name ≡ true) target.indices are.sets)) in
-        then-has (EachHas (λ element. OkHas (λ those. IsElement ok target.name (tuple_of those)) (in_order (labels v limit state (controlled binding sets element) target.indices)))) (EachHas (GivenStands target.name)) (domain v limit state binding at (control_over sets condition)) (λ those. in_order (map element those) and_then λ given. Ok (assigning.given_elements v limit state given))
+        then-has (EachHas (λ element. OkHas (λ those. IsElement ok target.name (tuple_of those)) (in_order (labels v limit state (controlled binding sets element) target.indices)))) (EachHas (GivenOccurs target.name)) (domain v limit state binding at (control_over sets condition)) (λ those. in_order (map element those) and_then λ given. Ok (assigning.given_elements v limit state given))
         (over-sets (λ element. OkHas (λ those. IsElement ok target.name (tuple_of those)) (in_order (labels v limit state (controlled binding sets element) target.indices))) binding at sets condition (λ element among. indices-pass target.name target.indices (controlled binding sets element) (element-fits binding sets element fits (simple-all sets index_sets_are) among) there are own))
-        (λ those all. then-has (EachHas (MayStandGiven target.name)) (EachHas (GivenStands target.name)) (in_order (map element those)) (λ given. Ok (assigning.given_elements v limit state given)) (in_order-has (MayStandGiven target.name) (map element those) (each-element target right_at right sets binding those all)) (λ given all. there-stand target.name given all))
+        (λ those all. then-has (EachHas (MayOccurGiven target.name)) (EachHas (GivenOccurs target.name)) (in_order (map element those)) (λ given. Ok (assigning.given_elements v limit state given)) (in_order-has (MayOccurGiven target.name) (map element those) (each-element target right_at right sets binding those all)) (λ given all. there-occur target.name given all))

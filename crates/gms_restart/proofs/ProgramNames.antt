@@ -26,14 +26,14 @@ use Rattle.gms_restart.proofs.Padding.{HoldsOf, HoldsOfAct, HoldsOfAll, IsBelow}
 -- ---- the texts of a source
 
 -- the prefixes of bytes
-fronts : List ℕ → List (List ℕ)
-fronts [] = [] ∷ []
-fronts (b ∷ bytes) = [] ∷ map (λ (text : List ℕ). b ∷ text) (fronts bytes)
+prefixes : List ℕ → List (List ℕ)
+prefixes [] = [] ∷ []
+prefixes (b ∷ bytes) = [] ∷ map (λ (text : List ℕ). b ∷ text) (prefixes bytes)
 
 -- all parts of bytes
 pub parts : List ℕ → List (List ℕ)
-parts [] = fronts []
-parts (b ∷ bytes) = fronts (b ∷ bytes) ++ parts bytes
+parts [] = prefixes []
+parts (b ∷ bytes) = prefixes (b ∷ bytes) ++ parts bytes
 
 -- a text is one of some
 abbrev pub Has : List (List ℕ) → List ℕ → Type 0
@@ -54,19 +54,19 @@ pub has-right : (texts others : List (List ℕ)) (text : List ℕ) → Has other
 has-right [] others text h = h
 has-right (first ∷ texts) others text h = inr (has-right texts others text h)
 
-fronts-have : (bytes : List ℕ) (k : ℕ) → Has (fronts bytes) (take k bytes)
-unfolding fronts
-fronts-have [] zero = inl refl
-fronts-have [] (suc k) = inl refl
-fronts-have (b ∷ bytes) zero = inl refl
-fronts-have (b ∷ bytes) (suc k) = inr (has-longer b (fronts bytes) (take k bytes) (fronts-have bytes k))
+prefixes-have : (bytes : List ℕ) (k : ℕ) → Has (prefixes bytes) (take k bytes)
+unfolding prefixes
+prefixes-have [] zero = inl refl
+prefixes-have [] (suc k) = inl refl
+prefixes-have (b ∷ bytes) zero = inl refl
+prefixes-have (b ∷ bytes) (suc k) = inr (has-longer b (prefixes bytes) (take k bytes) (prefixes-have bytes k))
 
 pub parts-have : (bytes : List ℕ) (i k : ℕ) → Has (parts bytes) (take k (drop i bytes))
 unfolding parts
-parts-have [] zero k = fronts-have [] k
-parts-have [] (suc i) k = fronts-have [] k
-parts-have (b ∷ bytes) zero k = has-left (fronts (b ∷ bytes)) (parts bytes) (take k (b ∷ bytes)) (fronts-have (b ∷ bytes) k)
-parts-have (b ∷ bytes) (suc i) k = has-right (fronts (b ∷ bytes)) (parts bytes) (take k (drop i bytes)) (parts-have bytes i k)
+parts-have [] zero k = prefixes-have [] k
+parts-have [] (suc i) k = prefixes-have [] k
+parts-have (b ∷ bytes) zero k = has-left (prefixes (b ∷ bytes)) (parts bytes) (take k (b ∷ bytes)) (prefixes-have (b ∷ bytes) k)
+parts-have (b ∷ bytes) (suc i) k = has-right (prefixes (b ∷ bytes)) (parts bytes) (take k (drop i bytes)) (parts-have bytes i k)
 
 -- the place at which it is among them
 has-at : (texts : List (List ℕ)) (text : List ℕ) → Has texts text → (k : ℕ) × (k < length texts) × (get_or texts k [] ≡ text)
@@ -83,8 +83,8 @@ same-long a b e =
     sym (length-map a _) ∙ long ∙ length-map b _
 
 -- the texts after one that is longer than each
-abbrev pub behind_longer : List (List ℕ) → List (List ℕ)
-behind_longer texts = (0 ∷ flat_map (λ (text : List ℕ). text) texts) ∷ texts
+abbrev pub after_longer : List (List ℕ) → List (List ℕ)
+after_longer texts = (0 ∷ flat_map (λ (text : List ℕ). text) texts) ∷ texts
 
 not-longer : (texts : List (List ℕ)) (text : List ℕ) → Has texts text → length text ≤ length (flat_map (λ (text : List ℕ). text) texts)
 not-longer [] text there = absurd there
@@ -98,14 +98,14 @@ not-longer (first ∷ texts) text (inr there) =
     omega (arith, few, all)
 
 -- each of them has a place after the first
-pub placed-following : (texts : List (List ℕ)) (text : List ℕ) → Has texts text → (o : Option ℕ) → place_of (behind_longer texts) text ≡ o → 0 < or_0 o
+pub placed-following : (texts : List (List ℕ)) (text : List ℕ) → Has texts text → (o : Option ℕ) → place_of (after_longer texts) text ≡ o → 0 < or_0 o
 placed-following texts text there None e =
     let at = has-at texts text there in
-    let missed : is_same text (get_or (behind_longer texts) (suc at.0) []) ≡ false = position_misses (is_same text) (behind_longer texts) e (suc at.0) [] (omega (arith, at.1)) in
+    let missed : is_same text (get_or (after_longer texts) (suc at.0) []) ≡ false = position_misses (is_same text) (after_longer texts) e (suc at.0) [] (omega (arith, at.1)) in
     let found : is_same text (get_or texts at.0 []) ≡ true = subst (λ (t : List ℕ). is_same text t ≡ true) (sym at.2) (is_same_refl text) in
     absurd (let z : ◌≡◌ {A = Bool} true false = sym found ∙ missed in cc)
 placed-following texts text there (Some zero) e =
-    let long : length text ≡ length (0 ∷ flat_map (λ (text : List ℕ). text) texts) = same-long text (0 ∷ flat_map (λ (text : List ℕ). text) texts) (place_of-reads (behind_longer texts) text 0 e).1 in
+    let long : length text ≡ length (0 ∷ flat_map (λ (text : List ℕ). text) texts) = same-long text (0 ∷ flat_map (λ (text : List ℕ). text) texts) (place_of-reads (after_longer texts) text 0 e).1 in
     let few = not-longer texts text there in
     absurd (omega (arith, long, few))
 placed-following texts text there (Some (suc n)) e = omega arith
@@ -113,7 +113,7 @@ placed-following texts text there (Some (suc n)) e = omega arith
 module _ (source : List ℕ) where
   -- the parts of a source after a text that is none of them
   abbrev table : List (List ℕ)
-  table = behind_longer (parts source)
+  table = after_longer (parts source)
 
   -- each name that it gives has a number
   named : (labels : List (List ℕ)) (tree : Derivation) → 0 < name_in source table labels tree

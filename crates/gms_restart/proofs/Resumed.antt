@@ -28,9 +28,9 @@ use Rattle.gms_save.proofs.LoadedNames.{blanked, keeps-following, keeps-undeclar
 use Rattle.gms_save_text.specs.Validity.{IsSavedOf, declared_symbols, fits_position, fits_domain}
 use Rattle.gms_restart.specs.Labels.{WritesItsLabels}
 use Rattle.gms_restart.specs.LastStates.{ContinuesSaved}
-use Rattle.gms_restart.proofs.Grounds.{among, at-most-ten, data-stand, fixed-positions, has-all, same-names}
+use Rattle.gms_restart.proofs.Grounds.{among, at-most-ten, data-occur, fixed-positions, has-all, same-names}
 use Rattle.gms_restart.proofs.Growth.{closed-after}
-use Rattle.gms_restart.proofs.Homes.{stands_few}
+use Rattle.gms_restart.proofs.Homes.{occurs_few}
 use Rattle.gms_restart.proofs.Kept.{Kept}
 
 -- ---- contents
@@ -144,7 +144,7 @@ module _ {F : Type 0} (v : F → Number) (whole saved : Program F) (firsts other
 
   all-long : (n : ℕ) → All (λ (t : List ℕ). length t ≡ length (symbol_at state n).domain) (given_in (symbol_at state n).content)
   all-long n k d below =
-      long-in (length saved.labels) state (symbol_at state n).domain (get_or (given_in (symbol_at state n).content) k d) ((is.given n).stand k d below)
+      long-in (length saved.labels) state (symbol_at state n).domain (get_or (given_in (symbol_at state n).content) k d) ((is.given n).occur k d below)
 
   follows-there : (n : ℕ) → Follows (symbol_at one n) (symbol_at state n)
   follows-there n = record {
@@ -223,36 +223,36 @@ module _ {F : Type 0} (v : F → Number) (whole saved : Program F) (firsts other
   further l e =
       let below = below-of l (length saved.labels) e in let fewer = continues.labels in test-of l labels (omega (arith, below, fewer))
 
-  stands-more : (domain : List (Option ℕ)) → AreFixed (among v saved accepts) one domain → (t : List ℕ) → fits_domain (length saved.labels) state domain t ≡ true → fits_domain labels first domain t ≡ true
-  stands-more [] fixed [] e = refl
-  stands-more [] fixed (l ∷ t) e = absurd (cc)
-  stands-more (p ∷ domain) fixed [] e = absurd (cc)
-  stands-more (None ∷ domain) fixed (l ∷ t) e =
+  occurs-more : (domain : List (Option ℕ)) → AreFixed (among v saved accepts) one domain → (t : List ℕ) → fits_domain (length saved.labels) state domain t ≡ true → fits_domain labels first domain t ≡ true
+  occurs-more [] fixed [] e = refl
+  occurs-more [] fixed (l ∷ t) e = absurd (cc)
+  occurs-more (p ∷ domain) fixed [] e = absurd (cc)
+  occurs-more (None ∷ domain) fixed (l ∷ t) e =
       let parts = and_parts (nat_lt l (length saved.labels)) (true && fits_domain (length saved.labels) state domain t) e in
-      and_from (nat_lt l labels) (true && fits_domain labels first domain t) (further l parts.0) (stands-more domain fixed t parts.1)
-  stands-more (Some set ∷ domain) fixed (l ∷ t) e =
+      and_from (nat_lt l labels) (true && fits_domain labels first domain t) (further l parts.0) (occurs-more domain fixed t parts.1)
+  occurs-more (Some set ∷ domain) fixed (l ∷ t) e =
       let parts = and_parts (nat_lt l (length saved.labels)) (fits_position state (Some set) l && fits_domain (length saved.labels) state domain t) e in
       let here = and_parts (fits_position state (Some set) l) (fits_domain (length saved.labels) state domain t) parts.1 in
       and_from (nat_lt l labels) (fits_position first (Some set) l && fits_domain labels first domain t) (further l parts.0)
-      (and_from (fits_position first (Some set) l) (fits_domain labels first domain t) (sym (ap (λ (ms : List (List ℕ)). has ms (l ∷ [])) (members-same set fixed.0.declared fixed.0.static)) ∙ here.0) (stands-more domain fixed.1 t here.1))
+      (and_from (fits_position first (Some set) l) (fits_domain labels first domain t) (sym (ap (λ (ms : List (List ℕ)). has ms (l ∷ [])) (members-same set fixed.0.declared fixed.0.static)) ∙ here.0) (occurs-more domain fixed.1 t here.1))
 
-  stand : (n : ℕ) (t : List ℕ) → has (given_in (symbol_at later n).content) t ≡ true → stands_few labels first (symbol_at first n).domain t ≡ true
-  stand n t there = by (declares one n) refl
+  occur : (n : ℕ) (t : List ℕ) → has (given_in (symbol_at later n).content) t ≡ true → occurs_few labels first (symbol_at first n).domain t ≡ true
+  occur n t there = by (declares one n) refl
     where
-      by : (b : Bool) → declares one n ≡ b → stands_few labels first (symbol_at first n).domain t ≡ true
+      by : (b : Bool) → declares one n ≡ b → occurs_few labels first (symbol_at first n).domain t ≡ true
       by true known =
           let tuples = given_in (symbol_at state n).content in
           let given : has tuples t ≡ true = subst (λ (s : Symbol). has (given_in s.content) t ≡ true) (later-there n known) there in
-          let stood = has-all (λ (u : List ℕ). fits_domain (length saved.labels) state (symbol_at state n).domain u ≡ true) tuples t (is.given n).stand given in
-          let moved = stands-more (symbol_at one n).domain (fixed-positions v saved accepts n) t (subst (λ (ds : List (Option ℕ)). fits_domain (length saved.labels) state ds t ≡ true) (domain-same n) stood) in
+          let stood = has-all (λ (u : List ℕ). fits_domain (length saved.labels) state (symbol_at state n).domain u ≡ true) tuples t (is.given n).occur given in
+          let moved = occurs-more (symbol_at one n).domain (fixed-positions v saved accepts n) t (subst (λ (ds : List (Option ℕ)). fits_domain (length saved.labels) state ds t ≡ true) (domain-same n) stood) in
           and_from (fits_domain labels first (symbol_at first n).domain t) (nat_le (length t) 10)
           (subst (λ (ds : List (Option ℕ)). fits_domain labels first ds t ≡ true) (sym (ap (λ (s : Symbol). s.domain) (known-there n known))) moved)
           (at-most-ten (length t) (has-all (λ (u : List ℕ). length u ≤ 10) tuples t (is.given n).few given))
-      by false apart = data-stand v whole accepted labels own n t (subst (λ (s : Symbol). has (given_in s.content) t ≡ true) (later-elsewhere n apart) there)
+      by false apart = data-occur v whole accepted labels own n t (subst (λ (s : Symbol). has (given_in s.content) t ≡ true) (later-elsewhere n apart) there)
 
   -- The state that is resumed from the saved one keeps it.
   pub later-kept : Kept labels first (among v whole accepted) later
   later-kept = record {
     lasts = record { stays = stays; later = record { declares = declares-same; given = tidy; static = static; ranges = is.ranges } };
-    stand = stand;
+    occur = occur;
   }

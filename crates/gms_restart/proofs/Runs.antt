@@ -49,9 +49,9 @@ use Rattle.gms_run_laws.proofs.TidyLoaded.{loaded-well}
 use Rattle.gms_save_text.specs.Validity.{are_in_range, fits_position, fits_domain}
 use Rattle.gms_restart.specs.Labels.{HasItsLabels, index_labels, tree_labels, condition_labels, labels_step, statement_labels}
 use Rattle.gms_restart.proofs.Fitting.{Context}
-use Rattle.gms_restart.proofs.Grounds.{among, fixed-positions, data-stand, ground-then}
+use Rattle.gms_restart.proofs.Grounds.{among, fixed-positions, data-occur, ground-then}
 use Rattle.gms_restart.proofs.Kept.{Kept}
-use Rattle.gms_restart.proofs.Passing.{stands_key, definition-passes, tree-passes}
+use Rattle.gms_restart.proofs.Passing.{occurs_key, definition-passes, tree-passes}
 use Rattle.gms_restart.proofs.Steps.{EachKeeps, all-keep, may_be, statement-keeps}
 
 -- ---- names that are assigned
@@ -80,14 +80,14 @@ module _ {F : Type 0} (v : F → Number) (limit : ℕ) (world : World F) (accept
   known_before before = known_after v program accepted.0 (sound before)
 
   clean-there : (before : List (Stmt F)) (statement : Stmt F) → FollowsIn program before statement → AreClean (known_before before) (statement_uses statement (known_before before).state [])
-  clean-there before statement stands =
-      statement-clean (known_before before) statement (after-sound v program accepted.0 before [] statement stands.0 (sym (ap (errors_after v program accepted.0 []) stands.1) ∙ accepted.1))
+  clean-there before statement occurs =
+      statement-clean (known_before before) statement (after-sound v program accepted.0 before [] statement occurs.0 (sym (ap (errors_after v program accepted.0 []) occurs.1) ∙ accepted.1))
 
   -- ---- definitions
 
   module _ (state : State) (context : Context labels first assigned state) where
     abbrev DefinesWell : Definition F → Type 0
-    DefinesWell = DefinitionPasses (stands_key labels first) v limit state
+    DefinesWell = DefinitionPasses (occurs_key labels first) v limit state
 
     both-well : (ds es : List (Definition F)) → EachHas DefinesWell ds → EachHas DefinesWell es → EachHas DefinesWell (ds ++ es)
     both-well [] es all more = more
@@ -115,13 +115,13 @@ module _ {F : Type 0} (v : F → Number) (limit : ℕ) (world : World F) (accept
         FollowsIn program before (record { at = at; act = Define equation indices condition left_at left side right_at right }) →
         Each (λ l. nat_lt l labels) (index_labels (index_list indices) ++ (condition_labels (option_map tree_of condition) ++ (tree_labels (tree_of left) ++ tree_labels (tree_of right)))) →
         DefinesWell (record { equation = equation.name; at = at; indices = index_list indices; condition = option_map tree_of condition; left_at = left_at; left = tree_of left; side = side; right_at = right_at; right = tree_of right })
-    defines-well before at equation indices condition left_at left side right_at right stands written =
+    defines-well before at equation indices condition left_at left side right_at right occurs written =
         let statement : Stmt F = record { at = at; act = Define equation indices condition left_at left side right_at right } in
         let known = known_before before in
-        let ground = ground-then v program accepted before statement stands labels own in
+        let ground = ground-then v program accepted before statement occurs labels own in
         let around = with_left [] indices in
         let below : ℕ → Bool = λ l. nat_lt l labels in
-        let clean = subst (AreClean known) (uses-act statement known.state [] ∙ uses-Define known.state at [] equation indices condition left_at left side right_at right) (clean-there before statement stands) in
+        let clean = subst (AreClean known) (uses-act statement known.state [] ∙ uses-Define known.state at [] equation indices condition left_at left side right_at right) (clean-there before statement occurs) in
         let used = sound-use known (defining equation.name (index_list indices)) clean.0 in
         let sides = clean-right known (left_uses at around indices condition) (uses as_side left_at around (tree_of left) ++ uses as_side right_at around (tree_of right)) clean.1 in
         let following = each-right below (index_labels (index_list indices)) (condition_labels (option_map tree_of condition) ++ (tree_labels (tree_of left) ++ tree_labels (tree_of right))) written in
@@ -141,20 +141,20 @@ module _ {F : Type 0} (v : F → Number) (limit : ℕ) (world : World F) (accept
         Q a = FollowsIn program before (record { at = at; act = a }) → Each (λ l. nat_lt l labels) (labels_of a) → EachHas DefinesWell (defined_at at a)
 
         by : (layer : Act-F F (Act F) (Stmt F)) → Q (roll-Act F layer)
-        by (Act-F.Declare kind items) = subst Q (sym (rolls-Declare kind items)) (λ stands written. tt)
-        by (Act-F.Alias one other) = subst Q (sym (rolls-Alias one other)) (λ stands written. tt)
-        by (Act-F.Assign target condition right_at right) = subst Q (sym (rolls-Assign target condition right_at right)) (λ stands written. tt)
+        by (Act-F.Declare kind items) = subst Q (sym (rolls-Declare kind items)) (λ occurs written. tt)
+        by (Act-F.Alias one other) = subst Q (sym (rolls-Alias one other)) (λ occurs written. tt)
+        by (Act-F.Assign target condition right_at right) = subst Q (sym (rolls-Assign target condition right_at right)) (λ occurs written. tt)
         by (Act-F.Define equation indices condition left_at left side right_at right) =
-            subst Q (sym (rolls-Define equation indices condition left_at left side right_at right)) (λ stands written.
+            subst Q (sym (rolls-Define equation indices condition left_at left side right_at right)) (λ occurs written.
             let labels_are = ap labels_of (sym (rolls-Define equation indices condition left_at left side right_at right)) ∙ fold-roll-Act F (List ℕ) (List ℕ) labels_step (λ statement. statement.act) (Act-F.Define equation indices condition left_at left side right_at right) in
             let d : Definition F = record { equation = equation.name; at = at; indices = index_list indices; condition = option_map tree_of condition; left_at = left_at; left = tree_of left; side = side; right_at = right_at; right = tree_of right } in
-            if-no-lag (has_lag (index_list indices)) d (defines-well before at equation indices condition left_at left side right_at right stands (subst (Each (λ l. nat_lt l labels)) labels_are written)))
-        by (Act-F.Model models) = subst Q (sym (rolls-Model models)) (λ stands written. tt)
-        by (Act-F.Solve model method objective maximize) = subst Q (sym (rolls-Solve model method objective maximize)) (λ stands written. tt)
-        by (Act-F.Display items) = subst Q (sym (rolls-Display items)) (λ stands written. tt)
-        by (Act-F.Loop control body) = subst Q (sym (rolls-Loop control body)) (λ stands written. tt)
-        by (Act-F.Options settings) = subst Q (sym (rolls-Options settings)) (λ stands written. tt)
-        by (Act-F.Abort condition items) = subst Q (sym (rolls-Abort condition items)) (λ stands written. tt)
+            if-no-lag (has_lag (index_list indices)) d (defines-well before at equation indices condition left_at left side right_at right occurs (subst (Each (λ l. nat_lt l labels)) labels_are written)))
+        by (Act-F.Model models) = subst Q (sym (rolls-Model models)) (λ occurs written. tt)
+        by (Act-F.Solve model method objective maximize) = subst Q (sym (rolls-Solve model method objective maximize)) (λ occurs written. tt)
+        by (Act-F.Display items) = subst Q (sym (rolls-Display items)) (λ occurs written. tt)
+        by (Act-F.Loop control body) = subst Q (sym (rolls-Loop control body)) (λ occurs written. tt)
+        by (Act-F.Options settings) = subst Q (sym (rolls-Options settings)) (λ occurs written. tt)
+        by (Act-F.Abort condition items) = subst Q (sym (rolls-Abort condition items)) (λ occurs written. tt)
 
     written-act : (s : Stmt F) → statement_labels s ≡ labels_of s.act
     written-act s = fold_out-Stmt F (List ℕ) (List ℕ) labels_step (λ statement. statement.act) s
@@ -185,7 +185,7 @@ module _ {F : Type 0} (v : F → Number) (limit : ℕ) (world : World F) (accept
   pub first-kept : Kept labels first assigned first
   first-kept =
       let well = loaded-well v program in
-      record { lasts = lasts-first first assigned well.tidy (ap are_in_range well.settings); stand = data-stand v program accepted labels own }
+      record { lasts = lasts-first first assigned well.tidy (ap are_in_range well.settings); occur = data-occur v program accepted labels own }
 
   -- The last state of a run of the program's statements after some keeps it, if the first state
   -- does.
@@ -199,19 +199,19 @@ module _ {F : Type 0} (v : F → Number) (limit : ℕ) (world : World F) (accept
 -- ---- the same for the last state
 
 -- the sets of positions have the same members in it
-stand-later : (count : ℕ) (first last : State) (assigned : ℕ → Bool) → ((set : ℕ) → base_of last set ≡ base_of first set) → ((n : ℕ) → assigned n ≡ false → members_in (symbol_at last n).content ≡ members_in (symbol_at first n).content) → (domain : List (Option ℕ)) → AreFixed assigned first domain → (t : List ℕ) → fits_domain count first domain t ≡ true → fits_domain count last domain t ≡ true
-stand-later count first last assigned bases static [] fixed [] e = refl
-stand-later count first last assigned bases static [] fixed (label ∷ t) e = absurd (cc)
-stand-later count first last assigned bases static (position ∷ domain) fixed [] e = absurd (cc)
-stand-later count first last assigned bases static (None ∷ domain) fixed (label ∷ t) e =
+occur-later : (count : ℕ) (first last : State) (assigned : ℕ → Bool) → ((set : ℕ) → base_of last set ≡ base_of first set) → ((n : ℕ) → assigned n ≡ false → members_in (symbol_at last n).content ≡ members_in (symbol_at first n).content) → (domain : List (Option ℕ)) → AreFixed assigned first domain → (t : List ℕ) → fits_domain count first domain t ≡ true → fits_domain count last domain t ≡ true
+occur-later count first last assigned bases static [] fixed [] e = refl
+occur-later count first last assigned bases static [] fixed (label ∷ t) e = absurd (cc)
+occur-later count first last assigned bases static (position ∷ domain) fixed [] e = absurd (cc)
+occur-later count first last assigned bases static (None ∷ domain) fixed (label ∷ t) e =
     let parts = and_parts (nat_lt label count) (true && fits_domain count first domain t) e in
-    and_from (nat_lt label count) (true && fits_domain count last domain t) parts.0 (stand-later count first last assigned bases static domain fixed t parts.1)
-stand-later count first last assigned bases static (Some set ∷ domain) fixed (label ∷ t) e =
+    and_from (nat_lt label count) (true && fits_domain count last domain t) parts.0 (occur-later count first last assigned bases static domain fixed t parts.1)
+occur-later count first last assigned bases static (Some set ∷ domain) fixed (label ∷ t) e =
     let parts = and_parts (nat_lt label count) (fits_position first (Some set) label && fits_domain count first domain t) e in
     let here = and_parts (fits_position first (Some set) label) (fits_domain count first domain t) parts.1 in
     let members : members_of last set ≡ members_of first set = ap (λ n. members_in (symbol_at last n).content) (bases set) ∙ static (base_of first set) fixed.0.static in
     and_from (nat_lt label count) (fits_position last (Some set) label && fits_domain count last domain t) parts.0
-    (and_from (fits_position last (Some set) label) (fits_domain count last domain t) (ap (λ (ms : List (List ℕ)). has ms (label ∷ [])) members ∙ here.0) (stand-later count first last assigned bases static domain fixed.1 t here.1))
+    (and_from (fits_position last (Some set) label) (fits_domain count last domain t) (ap (λ (ms : List (List ℕ)). has ms (label ∷ [])) members ∙ here.0) (occur-later count first last assigned bases static domain fixed.1 t here.1))
 
 all-from_has : (P : List ℕ → Type 0) (tuples : List (List ℕ)) → ((t : List ℕ) → has tuples t ≡ true → P t) → All P tuples
 all-from_has P [] each = All-nil P
@@ -220,19 +220,19 @@ all-from_has P (u ∷ tuples) each =
 
 module _ {F : Type 0} (v : F → Number) (program : Program F) (accepted : IsAccepted v program) (labels : ℕ) (last : State) (kept : Kept labels (loaded v program) (among v program accepted) last) where
   -- each tuple with data is in the domain of its name
-  pub kept-stand : (name : ℕ) → All (λ (t : List ℕ). fits_domain labels last (symbol_at last name).domain t ≡ true) (given_in (symbol_at last name).content)
-  kept-stand name =
+  pub kept-occur : (name : ℕ) → All (λ (t : List ℕ). fits_domain labels last (symbol_at last name).domain t ≡ true) (given_in (symbol_at last name).content)
+  kept-occur name =
       let first = loaded v program in
       all-from_has (λ (t : List ℕ). fits_domain labels last (symbol_at last name).domain t ≡ true) (given_in (symbol_at last name).content) (λ t there.
       subst (λ (ds : List (Option ℕ)). fits_domain labels last ds t ≡ true) (sym (kept.lasts.stays name).domain)
-      (stand-later labels first last (among v program accepted) (λ set. (kept.lasts.stays set).alike set) kept.lasts.later.static (symbol_at first name).domain (fixed-positions v program accepted name) t
-      (and_parts (fits_domain labels first (symbol_at first name).domain t) (nat_le (length t) 10) (kept.stand name t there)).0))
+      (occur-later labels first last (among v program accepted) (λ set. (kept.lasts.stays set).alike set) kept.lasts.later.static (symbol_at first name).domain (fixed-positions v program accepted name) t
+      (and_parts (fits_domain labels first (symbol_at first name).domain t) (nat_le (length t) 10) (kept.occur name t there)).0))
 
   -- and has at most 10 labels
   pub kept-few : (name : ℕ) → All (λ (t : List ℕ). length t ≤ 10) (given_in (symbol_at last name).content)
   kept-few name =
       let first = loaded v program in
-      all-from_has (λ (t : List ℕ). length t ≤ 10) (given_in (symbol_at last name).content) (λ t there. ten (length t) (and_parts (fits_domain labels first (symbol_at first name).domain t) (nat_le (length t) 10) (kept.stand name t there)).1)
+      all-from_has (λ (t : List ℕ). length t ≤ 10) (given_in (symbol_at last name).content) (λ t there. ten (length t) (and_parts (fits_domain labels first (symbol_at first name).domain t) (nat_le (length t) 10) (kept.occur name t there)).1)
     where
       ten : (n : ℕ) → nat_le n 10 ≡ true → n ≤ 10
       ten n le = grind (arith, nat_tests, le)

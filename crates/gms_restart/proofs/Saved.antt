@@ -15,7 +15,7 @@ use Rattle.gms_restart.specs.Labels.{WritesItsLabels}
 use Rattle.gms_restart.specs.LastStates.{last_state}
 use Rattle.gms_restart.proofs.Grounds.{among, same-names}
 use Rattle.gms_restart.proofs.Kept.{Kept}
-use Rattle.gms_restart.proofs.Runs.{first-kept, kept-few, kept-stand, last-kept}
+use Rattle.gms_restart.proofs.Runs.{first-kept, kept-few, kept-occur, last-kept}
 
 module _ {F : Type 0} (v : F → Number) (program : Program F) (accepted : IsAccepted v program) where
   -- a state that keeps what the run keeps is a saved state
@@ -26,7 +26,7 @@ module _ {F : Type 0} (v : F → Number) (program : Program F) (accepted : IsAcc
         given = λ name. record {
           ordered = (kept.lasts.later.given name).ordered;
           few = kept-few v program accepted (length program.labels) last kept name;
-          stand = kept-stand v program accepted (length program.labels) last kept name;
+          occur = kept-occur v program accepted (length program.labels) last kept name;
           fit = fit name;
           differs = (kept.lasts.later.given name).differs;
           statuses = (kept.lasts.later.given name).statuses;

@@ -15,7 +15,7 @@ use Rattle.gms_check.specs.Loaded.{IsAccepted, loaded}
 use Rattle.lp_core.specs.declared.answer.Answer.{Answer}
 use Rattle.gms_exec.specs.Run.{World, run_from}
 use Rattle.gms_run_laws.specs.Extensions.{DeclaresItsOwn, TypesNone}
-use Rattle.gms_restart.proofs.Joining.{Joins, StandsFor, joins}
+use Rattle.gms_restart.proofs.Joining.{Joins, OccursFor, joins}
 use Rattle.gms_run_laws.proofs.SolvesAlike.{defined_in}
 use Rattle.gms_save.specs.JointErrors.{joint_errors}
 use Rattle.gms_save.proofs.SeenActs.{Told, same-told, told_by}
@@ -40,8 +40,8 @@ module _ (xs ys : List (Stmt Frac)) (alike : map seen xs ≡ map seen ys) where
   following-alike : (others : List (Stmt Frac)) → map seen (xs ++ others) ≡ map seen (ys ++ others)
   following-alike others = map-append seen xs others ∙ ap (λ (vs : List Seen). vs ++ map seen others) alike ∙ sym (map-append seen ys others)
 
-  pub stand-for : (limit : ℕ) (world : World Frac) → StandsFor frac_value limit world xs ys
-  stand-for limit world = record {
+  pub occur-for : (limit : ℕ) (world : World Frac) → OccursFor frac_value limit world xs ys
+  occur-for limit world = record {
     states = λ count.
         loaded-are xs (blank_state count) ∙ ap (fold (λ (s : State) (v : Seen). (told_by v.1).given s) (blank_state count)) alike ∙ sym (loaded-are ys (blank_state count));
     define = λ others m. same-definitions (xs ++ others) (ys ++ others) (following-alike others) m;
@@ -62,7 +62,7 @@ pub alike-joins : (limit : ℕ) (saved joint : World Frac) (firsts others : List
     (run_from frac_value limit joint (loaded frac_value joint.program) (answers ++ further) firsts).halted ≡ None →
     Joins frac_value limit saved joint firsts others answers further
 alike-joins limit saved joint firsts others answers further alike accepted both few own statements types solvers done none reached =
-    joins frac_value limit saved joint firsts others answers further accepted both few own statements (stand-for firsts saved.program.statements.items (seen-same firsts saved.program.statements.items alike) limit joint) types solvers done none reached
+    joins frac_value limit saved joint firsts others answers further accepted both few own statements (occur-for firsts saved.program.statements.items (seen-same firsts saved.program.statements.items alike) limit joint) types solvers done none reached
 
 -- a joint program without errors types no saved variable in its later statements
 pub new-types : (from : ℕ) (saved joint : Program Frac) (firsts others : List (Stmt Frac)) (solvers : List (List ℕ)) → statements_view frac_value firsts ≡ statements_view frac_value saved.statements.items → length saved.names ≤ length joint.names → DeclaresItsOwn saved → joint.statements.items ≡ firsts ++ others →

@@ -49,9 +49,9 @@ use Rattle.gms_run_laws.proofs.ModelRows.{DefinitionPasses, program-keyed}
 use Rattle.gms_run_laws.proofs.RowElements.{IsOver}
 use Rattle.gms_restart.specs.Labels.{index_labels, tree_labels, condition_labels, control_labels, labels_step, statement_labels}
 use Rattle.gms_restart.proofs.Fitting.{Ground, Context, Fits}
-use Rattle.gms_restart.proofs.Homes.{stands_few}
+use Rattle.gms_restart.proofs.Homes.{occurs_few}
 use Rattle.gms_restart.proofs.Kept.{Kept, context-of, kept-given, kept-end, kept-options}
-use Rattle.gms_restart.proofs.Passing.{stands_key, positions-same, control-simple, element-fits, over-domain, GivenStands, given-stand}
+use Rattle.gms_restart.proofs.Passing.{occurs_key, positions-same, control-simple, element-fits, over-domain, GivenOccurs, given-occur}
 
 no-positions : (ds : List (Option ℕ)) → is_without_positions ds ≡ true → ds ≡ []
 no-positions [] e = refl
@@ -102,7 +102,7 @@ module _ (count : ℕ) (first : State) (assigned : ℕ → Bool) where
   abbrev pub may_be : ℕ → Bool
   may_be name = assigned (base_of first name)
 
-  module _ {F : Type 0} (v : F → Number) (limit : ℕ) (world : World F) (definitions_pass : (state : State) → Context count first assigned state → (model : ℕ) → EachHas (DefinitionPasses (stands_key count first) v limit state) (definitions_of_model world.program.statements.items model)) (known : Known F) (above_is : known.above ≡ directly_above known.state known.declared) (ground : Ground count first assigned known.state) where
+  module _ {F : Type 0} (v : F → Number) (limit : ℕ) (world : World F) (definitions_pass : (state : State) → Context count first assigned state → (model : ℕ) → EachHas (DefinitionPasses (occurs_key count first) v limit state) (definitions_of_model world.program.statements.items model)) (known : Known F) (above_is : known.above ≡ directly_above known.state known.declared) (ground : Ground count first assigned known.state) where
     keeps-display : (labels : ℕ) (items : List Show) → KeepsAct (display v limit labels items)
     keeps-display labels items at binding c fits p = value-keeps (all_shown labels c.state binding items) _ c (λ shown. p) p
 
@@ -124,30 +124,30 @@ module _ (count : ℕ) (first : State) (assigned : ℕ → Bool) where
         P (with_evaluated (given_by v limit c.state at binding (target_of target) (option_map tree_of condition) right_at (tree_of right) and_then λ given. Ok (after_given target.suffix target.name given c.state)) (in_state c) c)
     keeps-assign target condition right_at right there are own may at binding c fits p =
         by (given_by v limit c.state at binding (target_of target) (option_map tree_of condition) right_at (tree_of right))
-        (given-stand count first assigned known above_is ground v limit c.state (context-of count first assigned c.state p) (target_of target) at binding (option_map tree_of condition) right_at (tree_of right) fits there are own)
+        (given-occur count first assigned known above_is ground v limit c.state (context-of count first assigned c.state p) (target_of target) at binding (option_map tree_of condition) right_at (tree_of right) fits there are own)
       where
-        by : (r : Evaluated AllGiven) → OkHas (EachHas (GivenStands count first assigned known above_is ground v limit c.state (context-of count first assigned c.state p) target.name)) r → P (with_evaluated (r and_then λ given. Ok (after_given target.suffix target.name given c.state)) (in_state c) c)
+        by : (r : Evaluated AllGiven) → OkHas (EachHas (GivenOccurs count first assigned known above_is ground v limit c.state (context-of count first assigned c.state p) target.name)) r → P (with_evaluated (r and_then λ given. Ok (after_given target.suffix target.name given c.state)) (in_state c) c)
         by (Ok given) are = kept-given count first assigned c.state target.suffix target.name given may are p
         by (Err fault) are = p
 
     -- ---- a solve
 
-    objective-stands : (name : ℕ) → has_no_declaration known.state name ≡ false → not (is_free (symbol_at known.state name).content && is_without_positions (positions known.state name)) ≡ false → stands_key count first (record { symbol = name; tuple = [] }) ≡ true
-    objective-stands name there clean =
+    objective-occurs : (name : ℕ) → has_no_declaration known.state name ≡ false → not (is_free (symbol_at known.state name).content && is_without_positions (positions known.state name)) ≡ false → occurs_key count first (record { symbol = name; tuple = [] }) ≡ true
+    objective-occurs name there clean =
         let free = not-false (is_free (symbol_at known.state name).content && is_without_positions (positions known.state name)) clean in
         let none = no-positions (positions known.state name) (and_parts (is_free (symbol_at known.state name).content) (is_without_positions (positions known.state name)) free).1 in
-        subst (λ (ds : List (Option ℕ)). stands_few count first ds [] ≡ true) (sym none ∙ positions-same count first assigned known above_is ground name there) refl
+        subst (λ (ds : List (Option ℕ)). occurs_few count first ds [] ≡ true) (sym none ∙ positions-same count first assigned known above_is ground name there) refl
 
-    keeps-answered : (c : Course) (left : List (Answer Number)) (solvers : List (List ℕ)) (model : ℕ) (equations : List ℕ) (objective : ℕ) (at : Place) (lp : Lp Number) → IsOver (stands_key count first) lp → P c → P (answered v limit solvers model equations objective at (record c { left = left }) lp)
+    keeps-answered : (c : Course) (left : List (Answer Number)) (solvers : List (List ℕ)) (model : ℕ) (equations : List ℕ) (objective : ℕ) (at : Place) (lp : Lp Number) → IsOver (occurs_key count first) lp → P c → P (answered v limit solvers model equations objective at (record c { left = left }) lp)
     keeps-answered c [] solvers model equations objective at lp over p = p
     keeps-answered c (answer ∷ left) solvers model equations objective at lp over p = kept-end count first assigned c.state model lp answer.end over p
 
-    keeps-solve : (solvers : List (List ℕ)) (model objective : ℕ) (maximize : Bool) → stands_key count first (record { symbol = objective; tuple = [] }) ≡ true → KeepsAct (solve v limit solvers world.program.statements.items model objective maximize)
+    keeps-solve : (solvers : List (List ℕ)) (model objective : ℕ) (maximize : Bool) → occurs_key count first (record { symbol = objective; tuple = [] }) ≡ true → KeepsAct (solve v limit solvers world.program.statements.items model objective maximize)
     keeps-solve [] model objective maximize is at binding c fits p = p
     keeps-solve (solver ∷ solvers) model objective maximize is at binding c fits p =
         let statements = world.program.statements.items in
-        has-keeps (IsOver (stands_key count first)) (program_lp v limit c.state statements model objective maximize at) (answered v limit (solver ∷ solvers) model (equations_of statements model) objective at c) c
-        (program-keyed (stands_key count first) v limit c.state statements model objective maximize at (definitions_pass c.state (context-of count first assigned c.state p) model) is)
+        has-keeps (IsOver (occurs_key count first)) (program_lp v limit c.state statements model objective maximize at) (answered v limit (solver ∷ solvers) model (equations_of statements model) objective at c) c
+        (program-keyed (occurs_key count first) v limit c.state statements model objective maximize at (definitions_pass c.state (context-of count first assigned c.state p) model) is)
         (λ lp over. keeps-answered c c.left (solver ∷ solvers) model (equations_of statements model) objective at lp over p) p
 
     -- ---- a loop
@@ -236,7 +236,7 @@ module _ (count : ℕ) (first : State) (assigned : ℕ → Bool) where
     by_layer (Act-F.Solve model word objective maximize) =
         let x = Act-F.Solve model word objective maximize in
         rolled x _ _ _ _ (does-is x) (uses-is x) (labels-is x) (names-is x) (λ place around clean own may.
-        keeps-solve world.solvers model.name objective.name maximize (objective-stands objective.name (known-name objective.name (clean.1.1.0 UnknownName)) (clean.1.1.0 Objective)))
+        keeps-solve world.solvers model.name objective.name maximize (objective-occurs objective.name (known-name objective.name (clean.1.1.0 UnknownName)) (clean.1.1.0 Objective)))
       where
         known-name : (name : ℕ) → (has_no_declaration known.state name || false) ≡ false → has_no_declaration known.state name ≡ false
         known-name name e = by (has_no_declaration known.state name) e

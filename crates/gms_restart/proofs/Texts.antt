@@ -107,10 +107,10 @@ module _ (source : List ℕ) where
   abbrev pub WordIs : Word → Type 0
   WordIs word = IsPart source word.text
 
-  stretches-are : (test : ℕ → Bool) (most : ℕ) (text : List ℕ) → IsPart source text → Parts (first_fields test most text)
-  stretches-are test zero text part = tt
-  stretches-are test (suc most) text part =
-      (part-prefix source text (field_bytes test text) part, others (drop (field_bytes test text) text) (λ rest part. stretches-are test most rest part) (part-rest source text (field_bytes test text) part))
+  fields-are : (test : ℕ → Bool) (most : ℕ) (text : List ℕ) → IsPart source text → Parts (first_fields test most text)
+  fields-are test zero text part = tt
+  fields-are test (suc most) text part =
+      (part-prefix source text (field_bytes test text) part, others (drop (field_bytes test text) text) (λ rest part. fields-are test most rest part) (part-rest source text (field_bytes test text) part))
     where
       others : (rest : List ℕ) → ((text : List ℕ) → IsPart source text → Parts (first_fields test most text)) → IsPart source rest → Parts (others_by (first_fields test most) rest)
       others [] further part = tt
@@ -159,7 +159,7 @@ module _ (source : List ℕ) where
 
   -- the labels of a word are parts
   pub names-are : (word : Word) → WordIs word → Parts (labels_of_word word)
-  names-are word part = by (labels_of_text word.text) (among-are (parted is_dot word.text) (stretches-are is_dot (suc (length word.text)) word.text part))
+  names-are word part = by (labels_of_text word.text) (among-are (parted is_dot word.text) (fields-are is_dot (suc (length word.text)) word.text part))
     where
       by : (o : Option (List (List ℕ))) → MayBeParts o → Parts (unwrap_or o [])
       by None all = tt
@@ -199,7 +199,7 @@ module _ (source : List ℕ) where
   lines-are [] = tt
   lines-are (line ∷ lines) =
       let text = token_text source line.1 in
-      (words-are line.1.at.line text 0 (parted is_blank text) (stretches-are is_blank (suc (length text)) text (token-part source line.1)), lines-are lines)
+      (words-are line.1.at.line text 0 (parted is_blank text) (fields-are is_blank (suc (length text)) text (token-part source line.1)), lines-are lines)
 
   -- those of a table among tokens
   pub table-parts : (lines : List (Terminal × Token)) → EachHas PartIs (parts_of_tokens source lines)

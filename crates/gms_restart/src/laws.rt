@@ -73,7 +73,7 @@ pub fn restart_laws()
 
 /// In the last state of an accepted program's run each tuple with data is in the domain of its
 /// name: it has as many labels as the name has positions, each is one of the program's, and a
-/// member of the set of its position, if it has one (`stand`). So if its numbers fit, as those of a
+/// member of the set of its position, if it has one (`occur`). So if its numbers fit, as those of a
 /// store do, it is a saved state of the program (`saved`). The labels that the program writes, and
 /// those of its data, have to be in its own table, as those of the program of a source are (`own`).
 ///
@@ -84,7 +84,7 @@ pub fn restart_laws()
 ///
 /// GAMS User's Guide, "Save and Restart"; "Set Definition", domain checking.
 pub fn valid_laws<F: ExactField>()
-    ensures stand { (world : World F) (answers : List (Answer Number)) (name : ℕ) → IsAccepted F.value world.program → WritesItsLabels F.value world.program →
+    ensures occur { (world : World F) (answers : List (Answer Number)) (name : ℕ) → IsAccepted F.value world.program → WritesItsLabels F.value world.program →
         All (λ (t : List ℕ). fits_domain (length world.program.labels) (last_state F.value F.limit world answers) (symbol_at (last_state F.value F.limit world answers) name).domain t ≡ true)
         (given_in (symbol_at (last_state F.value F.limit world answers) name).content) }
     ensures saved { (world : World F) (answers : List (Answer Number)) (most : ℕ) (solver : List ℕ) → IsAccepted F.value world.program → WritesItsLabels F.value world.program →

@@ -26,17 +26,17 @@ module _ {F : Type 0} (state : State) (parts : List (Place × Bool × Expr F)) (
 
   -- ---- how many parts come before the first with variables
 
-  next_front : (p : Place × Bool × Expr F) → i < length parts → p ≡ get_or parts i p → (has : Bool) → has_variables state (tree_of p.2) ≡ has → values_first state (parts_in (drop i parts)) ≡ (if has then 0 else values_first state (parts_in (drop (i + 1) parts)) + 1)
-  next_front p here is has so =
+  next_prefix : (p : Place × Bool × Expr F) → i < length parts → p ≡ get_or parts i p → (has : Bool) → has_variables state (tree_of p.2) ≡ has → values_first state (parts_in (drop i parts)) ≡ (if has then 0 else values_first state (parts_in (drop (i + 1) parts)) + 1)
+  next_prefix p here is has so =
       at_drop_more (λ ps. values_first state (parts_in ps)) parts i p here
       ∙ ap (λ (z : Place × Bool × Expr F). values_first state (parts_in (z ∷ drop (i + 1) parts))) (sym is)
       ∙ ap (λ h. if h then 0 else values_first state (parts_in (drop (i + 1) parts)) + 1) so
 
   pub prefix-ends : (p : Place × Bool × Expr F) → i < length parts → p ≡ get_or parts i p → has_variables state (tree_of p.2) ≡ true → values_first state (parts_in (drop i parts)) ≡ 0
-  prefix-ends p here is so = next_front p here is true so
+  prefix-ends p here is so = next_prefix p here is true so
 
   pub prefix-more : (p : Place × Bool × Expr F) → i < length parts → p ≡ get_or parts i p → has_variables state (tree_of p.2) ≡ false → values_first state (parts_in (drop i parts)) ≡ values_first state (parts_in (drop (i + 1) parts)) + 1
-  prefix-more p here is so = next_front p here is false so
+  prefix-more p here is so = next_prefix p here is false so
 
   pub prefix-over : length parts ≤ i → values_first state (parts_in (drop i parts)) ≡ 0
   prefix-over all = at_drop_all (λ ps. values_first state (parts_in ps)) parts i all

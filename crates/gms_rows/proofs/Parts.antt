@@ -106,22 +106,22 @@ module _ {F : Type 0} (v : F → Number) (limit : ℕ) (state : State) (b : Pair
   abbrev pub following : Signed → List (Place × Bool × Expr F) → Option Form → Answer Form
   following kind rest so_far = from_here (signed_join limit b kind) part_mark part_form so_far rest
 
-  abbrev pub front_form : Signed → List (Place × Bool × Expr F) → Answer (Option Form)
-  front_form kind parts = prefix b (signed_step limit b kind) (map (λ p. (part_mark p, part_value p)) parts)
+  abbrev pub prefix_form : Signed → List (Place × Bool × Expr F) → Answer (Option Form)
+  prefix_form kind parts = prefix b (signed_step limit b kind) (map (λ p. (part_mark p, part_value p)) parts)
 
   -- a sum or a product by its parts before the first with variables, and the others
-  pub chain-is : (kind : Signed) (parts before rest : List (Place × Bool × Expr F)) (n : ℕ) → n ≡ values_first state (parts_in parts) → before ≡ take n parts → rest ≡ drop n parts → chain_form v limit state b kind (parts_in parts) ≡ (front_form kind before and_then following kind rest)
+  pub chain-is : (kind : Signed) (parts before rest : List (Place × Bool × Expr F)) (n : ℕ) → n ≡ values_first state (parts_in parts) → before ≡ take n parts → rest ≡ drop n parts → chain_form v limit state b kind (parts_in parts) ≡ (prefix_form kind before and_then following kind rest)
   chain-is kind parts before rest n count before-is rest-is =
       ap (λ k. chained b (signed_step limit b kind) (signed_join limit b kind) k (values v limit state b (parts_in parts)) (forms v limit state b (parts_in parts))) (sym count)
       ∙ ap (λ vs. chained b (signed_step limit b kind) (signed_join limit b kind) n vs (forms v limit state b (parts_in parts))) (values-parts_of v limit state b (λ (p : Place × Bool × Expr F). tree.signed p.0 p.1) (λ p. tree_of p.2) parts)
       ∙ ap (λ fs. chained b (signed_step limit b kind) (signed_join limit b kind) n (map (λ p. (part_mark p, part_value p)) parts) fs) (forms-parts parts)
       ∙ ap (λ vs. prefix b (signed_step limit b kind) vs and_then λ so_far. joined_forms (signed_join limit b kind) so_far (drop n (map (λ p. (part_mark p, part_form p)) parts))) (take-map (λ p. (part_mark p, part_value p)) n parts)
-      ∙ ap (λ fs. front_form kind (take n parts) and_then λ so_far. joined_forms (signed_join limit b kind) so_far fs) (drop-map (λ p. (part_mark p, part_form p)) n parts)
-      ∙ ap (λ ps. front_form kind ps and_then following kind (drop n parts)) (sym before-is)
-      ∙ ap (λ ps. front_form kind before and_then following kind ps) (sym rest-is)
+      ∙ ap (λ fs. prefix_form kind (take n parts) and_then λ so_far. joined_forms (signed_join limit b kind) so_far fs) (drop-map (λ p. (part_mark p, part_form p)) n parts)
+      ∙ ap (λ ps. prefix_form kind ps and_then following kind (drop n parts)) (sym before-is)
+      ∙ ap (λ ps. prefix_form kind before and_then following kind ps) (sym rest-is)
 
   -- no parts before the first with variables
-  pub prefix-none : (kind : Signed) (parts : List (Place × Bool × Expr F)) → length parts ≡ 0 → front_form kind parts ≡ Ok None
+  pub prefix-none : (kind : Signed) (parts : List (Place × Bool × Expr F)) → length parts ≡ 0 → prefix_form kind parts ≡ Ok None
   prefix-none kind [] none = refl
   prefix-none kind (p ∷ parts) none = absurd (omega arith)
 
@@ -129,9 +129,9 @@ module _ {F : Type 0} (v : F → Number) (limit : ℕ) (state : State) (b : Pair
   abbrev pub numbered : Place → Extended → Answer (Option Form)
   numbered place x = form_of place b x and_then λ form. Ok (Some form)
 
-  pub prefix-some : (kind : Signed) (parts rest : List (Place × Bool × Expr F)) (p : Place × Bool × Expr F) → parts ≡ p ∷ rest → front_form kind parts ≡ (chain (signed_step limit b kind) (map (λ q. (part_mark q, part_value q)) parts) and_then numbered p.0)
+  pub prefix-some : (kind : Signed) (parts rest : List (Place × Bool × Expr F)) (p : Place × Bool × Expr F) → parts ≡ p ∷ rest → prefix_form kind parts ≡ (chain (signed_step limit b kind) (map (λ q. (part_mark q, part_value q)) parts) and_then numbered p.0)
   prefix-some kind parts rest p is =
-      ap (front_form kind) is
+      ap (prefix_form kind) is
       ∙ ap (λ ps. chain (signed_step limit b kind) (map (λ q. (part_mark q, part_value q)) ps) and_then numbered p.0) (sym is)
 
 module _ {F : Type 0} (v : F → Number) (limit : ℕ) (b : Pairs) (kind : Signed) (so_far : Option (OwnForm F)) (left : OwnForm F) (form : Form) (at : Place) (inverse : Bool) (some : so_far ≡ Some left) where

@@ -25,9 +25,9 @@ use Rattle.gms_rows.proofs.Places.{place-there}
 use Rattle.gms_rows.proofs.ColumnKeys.{entries-form}
 
 -- a key that is among others is at some place
-pub stands-at : (keys : List Key) (key : Key) → is_among keys key ≡ true → (i : ℕ) × (i < length keys) × ((d : Key) → get_or keys i d ≡ key)
-stands-at [] key there = absurd (cc)
-stands-at (k ∷ keys) key there = by (same_key key k) refl (stands-at keys key)
+pub occurs-at : (keys : List Key) (key : Key) → is_among keys key ≡ true → (i : ℕ) × (i < length keys) × ((d : Key) → get_or keys i d ≡ key)
+occurs-at [] key there = absurd (cc)
+occurs-at (k ∷ keys) key there = by (same_key key k) refl (occurs-at keys key)
   where
     by : (b : Bool) → same_key key k ≡ b → (is_among keys key ≡ true → (i : ℕ) × (i < length keys) × ((d : Key) → get_or keys i d ≡ key)) → (i : ℕ) × (i < suc (length keys)) × ((d : Key) → get_or (k ∷ keys) i d ≡ key)
     by true e rest = (0, omega arith, λ d. sym (same_key-is key k e))
@@ -36,22 +36,22 @@ stands-at (k ∷ keys) key there = by (same_key key k) refl (stands-at keys key)
         (suc later.0, omega (arith, later.1), λ d. later.2 d)
 
 module _ (columns : List Key) (ordered : AreOrdered columns) where
-  pub stands-in_place : (key : Key) → is_among columns key ≡ true → (place_of_key columns key < length columns) × ((d : Key) → get_or columns (place_of_key columns key) d ≡ key)
-  stands-in_place key there =
-      let some = stands-at columns key there in
+  pub occurs-in_place : (key : Key) → is_among columns key ≡ true → (place_of_key columns key < length columns) × ((d : Key) → get_or columns (place_of_key columns key) d ≡ key)
+  occurs-in_place key there =
+      let some = occurs-at columns key there in
       let equal : key_cmp (get_or columns some.0 key) key ≡ Equal = ap (λ k. key_cmp k key) (some.2 key) ∙ tied_itself key_cmp-total key in
       let is = place-there columns key some.0 ordered some.1 equal in
       (omega (arith, some.1, is), λ d. subst (λ i. get_or columns i d ≡ key) is (some.2 d))
 
   -- the place of a key that is a column is one of their places
   pub place-within : (key : Key) → is_among columns key ≡ true → place_of_key columns key < length columns
-  place-within key there = (stands-in_place key there).0
+  place-within key there = (occurs-in_place key there).0
 
   -- places rise with their keys
   place-rises : (k l : Key) → is_among columns k ≡ true → is_among columns l ≡ true → key_cmp k l ≡ Less → place_of_key columns k < place_of_key columns l
   place-rises k l here there less =
-      let at = stands-in_place k here in
-      let following = stands-in_place l there in
+      let at = occurs-in_place k here in
+      let following = occurs-in_place l there in
       elim (cases_lt (place_of_key columns k) (place_of_key columns l)) [
         | inl before ↦ before
         | inr after ↦ absurd (elim (cases_eq (place_of_key columns l) (place_of_key columns k)) [

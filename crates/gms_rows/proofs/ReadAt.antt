@@ -237,9 +237,9 @@ module _ {F : Type 0} (v : F → Number) (limit : ℕ) (state : State) (point : 
     Starts x parts f =
         joined_forms join (option_map constant_form x) (forms v limit state b parts) ≡ Ok f → nodes.joined exact (Ok nothing) (option_map number x) (values_at v limit state point b parts) ≡ Ok (shown point f)
 
-    from_front : (parts : tree.Parts F) (f : Form) → ((x : Option Number) → Starts x parts f) → (xs : Marked) → (prefix b limited xs and_then λ so_far. joined_forms join so_far (forms v limit state b parts)) ≡ Ok f → chain exact (xs ++ values_at v limit state point b parts) ≡ Ok (shown point f)
-    from_front parts f starts [] e = starts None e
-    from_front parts f starts (p ∷ xs) e =
+    from_prefix : (parts : tree.Parts F) (f : Form) → ((x : Option Number) → Starts x parts f) → (xs : Marked) → (prefix b limited xs and_then λ so_far. joined_forms join so_far (forms v limit state b parts)) ≡ Ok f → chain exact (xs ++ values_at v limit state point b parts) ≡ Ok (shown point f)
+    from_prefix parts f starts [] e = starts None e
+    from_prefix parts f starts (p ∷ xs) e =
         let one = given (prefix b limited (p ∷ xs)) (λ so_far. joined_forms join so_far (forms v limit state b parts)) f e in
         let two = given (chain limited (p ∷ xs)) (λ x. form_of (part_place p.0) b x and_then λ form. Ok (Some form)) one.value one.is in
         let three = given (form_of (part_place p.0) b two.value) (λ form. Ok (Some form)) one.value two.next_is in
@@ -257,7 +257,7 @@ module _ {F : Type 0} (v : F → Number) (limit : ℕ) (state : State) (point : 
     chained-at : (parts : tree.Parts F) (f : Form) → ((x : Option Number) → Starts x (following state parts) f) → chained b limited join (values_first state parts) (values v limit state b parts) (forms v limit state b parts) ≡ Ok f → chain exact (values_at v limit state point b parts) ≡ Ok (shown point f)
     chained-at parts f starts e =
         ap (chain exact) (values-split b parts)
-        ∙ from_front (following state parts) f starts (take (values_first state parts) (values v limit state b parts)) (split-forms parts f e)
+        ∙ from_prefix (following state parts) f starts (take (values_first state parts) (values v limit state b parts)) (split-forms parts f e)
 
     -- where no part comes before the first with variables
     chained-none : (parts : tree.Parts F) (f : Form) → values_first state parts ≡ 0 → Starts None (following state parts) f → chained b limited join (values_first state parts) (values v limit state b parts) (forms v limit state b parts) ≡ Ok f → chain exact (values_at v limit state point b parts) ≡ Ok (shown point f)

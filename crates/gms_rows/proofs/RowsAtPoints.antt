@@ -49,7 +49,7 @@ use Rattle.gms_rows.proofs.ColumnKeys.{among-ordered}
 use Rattle.gms_rows.proofs.Domains.{given, only_value}
 use Rattle.gms_rows.proofs.KeyLists.{tied-turned, keys-ordered}
 use Rattle.gms_rows.proofs.OneRow.{row_at}
-use Rattle.gms_rows.proofs.Placing.{stands-in_place}
+use Rattle.gms_rows.proofs.Placing.{occurs-in_place}
 use Rattle.gms_rows.proofs.PointSums.{sum_of-at}
 use Rattle.gms_rows.proofs.Programs.{all-of_map, map-keeps, map-itself, keys-there}
 use Rattle.gms_rows.proofs.ReadAt.{affine-at}
@@ -98,7 +98,7 @@ module _ (point : Key → Number) (keys : List Key) (up : AreOrdered keys) where
   -- the value of a column is that of its element
   value-there : (key : Key) → is_among keys key ≡ true → value_of_column (map point keys) (place_of_key keys key) ≡ point key
   value-there key there =
-      let at = stands-in_place keys up key there in
+      let at = occurs-in_place keys up key there in
       get_or-map point keys (place_of_key keys key) key (whole (pos 0)) at.0 ∙ ap point (at.1 key)
 
   -- the sum of a placed row is that of its form's entries

@@ -183,7 +183,7 @@ fn multiple<F: ExactField>(
     let _ = form.keys();
     match form.scale(alloc, x) {
         Ok(product) => Ok(product),
-        Err(fault) => Err(behind_number(alloc, fault, x, form, at, b)),
+        Err(fault) => Err(after_number(alloc, fault, x, form, at, b)),
     }
 }
 
@@ -252,7 +252,7 @@ fn with_number<F: ExactField>(
 
 /// The stop of a step on a number and a form that does not fit.
 #[inline(never)]
-fn behind_number<F: ExactField>(
+fn after_number<F: ExactField>(
     alloc: Global,
     fault: FormFault,
     x: F,

@@ -8,7 +8,7 @@ use Rattle.gms_host.specs.Meaning.{Counts, Outside}
 use Rattle.gms_host.specs.Rules.{CountsReading, CountsWriting, IsCounted, with_output}
 use Rattle.gms_host.specs.Spooling.{Passes, PutsThrough, WritesAll, WritesPrefix}
 use Rattle.gms_host.proofs.Counting.{done_with, reading_more, writing_more}
-use Rattle.gms_host.proofs.WrittenPrefixes.{front_on, passes_whole}
+use Rattle.gms_host.proofs.WrittenPrefixes.{prefix_on, passes_whole}
 use Rattle.gms_run.specs.InnerSteps.{ResultsIn}
 
 -- a result that is this failure
@@ -55,7 +55,7 @@ comes_put (Err Memory) old new put expected pending same p = tt
 -- work that ends by writing all that is pending
 pub comes_flushed : {A : Type 0} (r : Result A Failed) (old mid new : Outside) (expected pending : List ℕ) → Passes old mid expected pending → WritesAll r mid new pending → ResultsIn r (λ x. new ≡ with_output old expected) (WritesPrefix old new expected)
 comes_flushed (Ok x) old mid new expected pending p w = passes_whole old mid new expected pending p w
-comes_flushed (Err failed) old mid new expected pending p w = comes_broken _ failed (front_on old mid new expected pending p w)
+comes_flushed (Err failed) old mid new expected pending p w = comes_broken _ failed (prefix_on old mid new expected pending p w)
 
 -- the same fault in another result
 fault_in : {A B : Type 0} (failed : Failed) → IsErrOf (failed_with B failed) Fault → IsErrOf (failed_with A failed) Fault

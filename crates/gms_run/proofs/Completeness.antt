@@ -110,16 +110,16 @@ good_save solvers save fault good is = by fault (is.back good.source good.progra
     by SaveSolver lacks = good.placed lacks
 
 -- What can be run is not refused.
-good_matter : (solvers : List (List ℕ)) (taken : RunInput) (loaded_input : LoadedInput) (text : List ℕ) → CanRun solvers taken → IsLoadedInput solvers taken loaded_input → ShowsWhy solvers loaded_input text → ⊥
-good_matter solvers (from_start source) (scripted script) text can is why = good_script solvers script text (subst (IsGood solvers) (sym is) can) why
-good_matter solvers (from_start source) (unrestored fault) text can is why = absurd is
-good_matter solvers (from_save save file) (scripted script) text can is why = good_script solvers script text (subst (IsGood solvers) (sym is.joint) (can.1 is.saved is.restored)) why
-good_matter solvers (from_save save file) (unrestored fault) text can is why = good_save solvers save fault can.0 is
+good_input : (solvers : List (List ℕ)) (taken : RunInput) (loaded_input : LoadedInput) (text : List ℕ) → CanRun solvers taken → IsLoadedInput solvers taken loaded_input → ShowsWhy solvers loaded_input text → ⊥
+good_input solvers (from_start source) (scripted script) text can is why = good_script solvers script text (subst (IsGood solvers) (sym is) can) why
+good_input solvers (from_start source) (unrestored fault) text can is why = absurd is
+good_input solvers (from_save save file) (scripted script) text can is why = good_script solvers script text (subst (IsGood solvers) (sym is.joint) (can.1 is.saved is.restored)) why
+good_input solvers (from_save save file) (unrestored fault) text can is why = good_save solvers save fault can.0 is
 
 pub not_refused : (solving : Solving) (old new : Outside) (words : List (List ℕ)) (request : Asked) → IsRunOf Compile solving old new request → (n : NamesSource old words) → n.request ≡ request → CanRun solving.before.names n.taken → ⊥
 not_refused solving old new words request run n same can =
     let is : run.taken ≡ n.taken = named_taken Compile solving old new words request run n same in
-    good_matter solving.before.names run.taken run.loaded_input run.ran.text (subst (CanRun solving.before.names) (sym is) can) run.is_loaded_input run.ran.listing.0
+    good_input solving.before.names run.taken run.loaded_input run.ran.text (subst (CanRun solving.before.names) (sym is) can) run.is_loaded_input run.ran.listing.0
 
 -- A run of arguments that name a program, where no fault is met: it ends with Done or Execution.
 pub completes : (status : Status) (solving : Solving) (words : List (List ℕ)) (old new : Meaning) → IsRun status solving words old new → CountsSo status old.counts new.counts → (IsReadyFor old words → EndsByNoFault status) → NamesProgram solving.before.names old.outside words → MeetsNoFault old.counts new.counts → (status ≡ Done) ⊎ (status ≡ Execution)

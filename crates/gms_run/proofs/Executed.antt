@@ -29,8 +29,8 @@ use Rattle.gms_run.proofs.Proved.{listable}
 use Rattle.gms_run.specs.InnerSteps.{Between, IsListed, course_at, programs_in}
 
 -- all events are valid, where none were shown before
-pub all_stand : (rules : List SolverRule) (answers : List (Answer Frac)) (before events : List (OwnEvent Frac)) → before ≡ [] → ShowsValidEvents frac_value frac_limit rules answers before events → All (IsValidEvent frac_value frac_limit rules answers) events
-all_stand rules answers before events none shows =
+pub all_occur : (rules : List SolverRule) (answers : List (Answer Frac)) (before events : List (OwnEvent Frac)) → before ≡ [] → ShowsValidEvents frac_value frac_limit rules answers before events → All (IsValidEvent frac_value frac_limit rules answers) events
+all_occur rules answers before events none shows =
     subst (All (IsValidEvent frac_value frac_limit rules answers)) (sym (shows.events ∙ ap (λ es. es ++ shows.shown) none)) shows.valid
 
 -- valid events can be listed
@@ -38,7 +38,7 @@ pub all_listable : (rules : List SolverRule) (answers : List (Answer Frac)) (eve
 all_listable rules answers events are =
     All-weaker (IsValidEvent frac_value frac_limit rules answers) (IsListable frac_value answers) (listable frac_value frac_limit rules answers) events are
 
-module _ (program : Program Frac) (rules : List SolverRule) (does : Course → Course) (old new : Between) (events : List (OwnEvent Frac)) (is_behind : (beginning : List Event) (c : Course) → does (following beginning c) ≡ following beginning (does c)) where
+module _ (program : Program Frac) (rules : List SolverRule) (does : Course → Course) (old new : Between) (events : List (OwnEvent Frac)) (is_after : (beginning : List Event) (c : Course) → does (following beginning c) ≡ following beginning (does c)) where
   abbrev numbers : List (Answer Number)
   numbers = map (answer_numbers frac_value) new.answers
 
@@ -52,8 +52,8 @@ module _ (program : Program Frac) (rules : List SolverRule) (does : Course → C
   seen_new = record { state = new.state; events = events; answers = new.answers }
 
   -- after events that were shown before, the run does the same
-  behind_front : (beginning : List Event) (left : List (Answer Number)) → does (course_at old beginning left None) ≡ following beginning (does (course_from_view frac_value seen_old left))
-  behind_front beginning left = ap (λ es. does (course_at old es left None)) (sym (append-nil beginning)) ∙ is_behind beginning (course_from_view frac_value seen_old left)
+  after_prefix : (beginning : List Event) (left : List (Answer Number)) → does (course_at old beginning left None) ≡ following beginning (does (course_from_view frac_value seen_old left))
+  after_prefix beginning left = ap (λ es. does (course_at old es left None)) (sym (append-nil beginning)) ∙ is_after beginning (course_from_view frac_value seen_old left)
 
   -- After a statement without a fault the run continues.
   pub listed_on : {A : Type 0} (x : A) (none : List (OwnEvent Frac)) (before after : List ℕ) → none ≡ [] → Runs frac_value (let r : Result A (ExecStopOrMemory Frac) = Ok x in r) does (seen_before none) seen_new → All (IsValidEvent frac_value frac_limit rules new.answers) events → HavePathsExtended old.solvers new.solvers new.answers (events_in frac_value events) → new.programs ≡ old.programs ++ programs_in events →
@@ -69,7 +69,7 @@ module _ (program : Program Frac) (rules : List SolverRule) (does : Course → C
         programs = programs;
         valid = valid;
         extended = extended;
-        comes = λ beginning more. behind_front beginning (map (answer_numbers frac_value) runs.fresh ++ more) ∙ ap (following beginning) (runs.comes more);
+        comes = λ beginning more. after_prefix beginning (map (answer_numbers frac_value) runs.fresh ++ more) ∙ ap (following beginning) (runs.comes more);
         text = text ∙ ap (λ es. before ++ events_text program.names program.labels frac_limit numbers es) (sym (append-nil (events_in frac_value events)));
       }
 
@@ -91,7 +91,7 @@ module _ (program : Program Frac) (rules : List SolverRule) (does : Course → C
         programs = programs;
         valid = valid;
         extended = extended;
-        comes = λ beginning left. behind_front beginning (map (answer_numbers frac_value) runs.fresh ++ left) ∙ ap (following beginning) (runs.comes left);
+        comes = λ beginning left. after_prefix beginning (map (answer_numbers frac_value) runs.fresh ++ left) ∙ ap (following beginning) (runs.comes left);
         text = more ∙ ap (λ t. t ++ last) text ∙ append_assoc before (one (events_in frac_value events)) last
             ∙ ap (λ t. before ++ t) (ap (λ t. one (events_in frac_value events) ++ t) (sym (append-nil last)) ∙ sym (flat_map-append (event_text program.names program.labels frac_limit numbers) (events_in frac_value events) (stops fault ∷ [])));
       }

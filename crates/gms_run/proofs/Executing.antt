@@ -10,7 +10,7 @@ use Rattle.gms_host.specs.Meaning.{Meaning, Outside}
 use Rattle.gms_host.specs.Rules.{CountsWriting}
 use Rattle.gms_host.specs.Spooling.{Passes, WritesPrefix}
 use Rattle.gms_host.proofs.Counting.{all_done}
-use Rattle.gms_host.proofs.WrittenPrefixes.{front_longer, output-both, passes_none, passes_on}
+use Rattle.gms_host.proofs.WrittenPrefixes.{prefix_longer, output-both, passes_none, passes_on}
 use Rattle.lp_core.specs.declared.answer.Answer.{Answer}
 use Rattle.lp_slot.specs.declared.solver.SolverRule.{SolverRule}
 use Rattle.lp_core.specs.declared.program.Lp.{Lp}
@@ -67,8 +67,8 @@ module _ (to_run : ProgramToRun) (before : Solvers) where
       (subst (λ ns. IsListed continues (of_statement frac_value frac_limit (record { program = to_run.program; solvers = ns }) s []) to_run.program rules_now now next x y) same_names p)
 
 -- at most one spool is pending, where the rest is empty
-pub room_behind : (spool rest : List ℕ) → length spool ≤ 4096 → rest ≡ [] → length (spool ++ rest) ≤ 4096
-room_behind spool rest few none = subst (λ t. length t ≤ 4096) (sym (ap (λ t. spool ++ t) none ∙ append-nil spool)) few
+pub bound_after : (spool rest : List ℕ) → length spool ≤ 4096 → rest ≡ [] → length (spool ++ rest) ≤ 4096
+bound_after spool rest few none = subst (λ t. length t ≤ 4096) (sym (ap (λ t. spool ++ t) none ∙ append-nil spool)) few
 
 -- The first `i` statements were executed. Their listing follows the text `expected`, and all of it
 -- is written except for `left`.
@@ -155,7 +155,7 @@ module _ (to_run : ProgramToRun) (before : Solvers) (old : Outside) (expected : 
   -- after a statement that a fault stopped
   pub came_stopped : (mid new : Outside) (i : ℕ) (at : Between) (left spool rest : List ℕ) → Executes mid false i at left → Passes mid new left spool → length spool ≤ 4096 → rest ≡ [] → EndsAfter Execution to_run (solving_with to_run before at) at.state at.programs old new expected (spool ++ rest)
   came_stopped mid new i at left spool rest h q within_bound none =
-      ended new Execution at h.text (spool ++ rest) (ends_stopped to_run before (i + 1) at h.text h.done) (subst (Passes old new (expected ++ h.text)) (sym (ap (λ t. spool ++ t) none ∙ append-nil spool)) (passes_on old mid new (expected ++ h.text) left spool h.passes q)) (room_behind spool rest within_bound none)
+      ended new Execution at h.text (spool ++ rest) (ends_stopped to_run before (i + 1) at h.text h.done) (subst (Passes old new (expected ++ h.text)) (sym (ap (λ t. spool ++ t) none ∙ append-nil spool)) (passes_on old mid new (expected ++ h.text) left spool h.passes q)) (bound_after spool rest within_bound none)
 
   -- a bound on what is pending holds with more bytes
   pends_more : (n : ℕ) (xs ys : List ℕ) → n ≤ length xs + 4096 → n ≤ length (xs ++ ys) + 4096
@@ -199,26 +199,26 @@ same_many name xs ys same = sym (length-map xs name) ∙ ap length same ∙ leng
 -- ---- after the echo
 
 -- The program ended, and its listing before the last line is written, except for what is pending.
-pub record EndsJob (status : Status) (to_run : ProgramToRun) (solving : Solving) (last : State) (programs : List (Lp Frac)) (old new : Outside) (pending : List ℕ) : Type 0 where
+pub record EndsProgram (status : Status) (to_run : ProgramToRun) (solving : Solving) (last : State) (programs : List (Lp Frac)) (old new : Outside) (pending : List ℕ) : Type 0 where
   pub ends : Ends status to_run solving last programs
   pub passes : Passes old new (body_of to_run solving) pending
   pub within_bound : length pending ≤ 4096
 
 -- The listing of the program was cut off.
-pub record BreaksJob (to_run : ProgramToRun) (solving : Solving) (old new : Outside) : Type 0 where
+pub record BreaksProgram (to_run : ProgramToRun) (solving : Solving) (old new : Outside) : Type 0 where
   pub solved : IsRunSolved to_run solving
   pub beginning : WritesPrefix old new (body_of to_run solving)
   pub cut : IsCutOff to_run solving (length beginning.1.bytes)
 
 module _ (to_run : ProgramToRun) (old mid : Outside) (spool rest : List ℕ) (first : Passes old mid (echo_text to_run.line to_run.file) spool) (none : rest ≡ []) where
   -- a program to run without an echo
-  abbrev quiet_job : State → ProgramToRun
-  quiet_job state = work to_run.program state to_run.statements
+  abbrev quiet_program : State → ProgramToRun
+  quiet_program state = work to_run.program state to_run.statements
 
   -- is solved as the one that is
-  echoed : (state : State) (solving : Solving) → state ≡ to_run.state → IsRunSolved (quiet_job state) solving → IsRunSolved to_run solving
+  echoed : (state : State) (solving : Solving) → state ≡ to_run.state → IsRunSolved (quiet_program state) solving → IsRunSolved to_run solving
   echoed state solving same s =
-      let r = subst (λ st. IsRunSolved (quiet_job st) solving) same s in
+      let r = subst (λ st. IsRunSolved (quiet_program st) solving) same s in
       record { all_taken = r.all_taken; answered = r.answered; ended = r.ended; extended = r.extended }
 
   -- the text before the statements' is the echo
@@ -229,9 +229,9 @@ module _ (to_run : ProgramToRun) (old mid : Outside) (spool rest : List ℕ) (fi
 
   -- The statements ended, and their text follows the echo.
   pub ends_echoed : (status : Status) (solving : Solving) (state last : State) (programs : List (Lp Frac)) (new : Outside) (pending : List ℕ) → state ≡ to_run.state →
-      EndsAfter status (quiet_job state) solving last programs mid new (spool ++ rest) pending → EndsJob status to_run solving last programs old new pending
+      EndsAfter status (quiet_program state) solving last programs mid new (spool ++ rest) pending → EndsProgram status to_run solving last programs old new pending
   ends_echoed status solving state last programs new pending same e =
-      let r = subst (λ st. EndsAfter status (quiet_job st) solving last programs mid new (spool ++ rest) pending) same e in
+      let r = subst (λ st. EndsAfter status (quiet_program st) solving last programs mid new (spool ++ rest) pending) same e in
       record {
         ends = record { solved = echoed state solving same e.ends.solved; halts = r.ends.halts; comes = r.ends.comes; kept = r.ends.kept };
         passes = record { bytes = first.bytes ++ r.passes.bytes; written = output-both old mid new first.bytes r.passes.bytes first.written r.passes.written; split = values_first _ r.passes.bytes pending r.passes.split };
@@ -245,9 +245,9 @@ module _ (to_run : ProgramToRun) (old mid : Outside) (spool rest : List ℕ) (fi
       omega (arith, e, h, length-append (first.bytes ++ []) ((spool ++ rest) ++ shown), length-append first.bytes bytes, length-append first.bytes [])
 
   -- The statements were cut off, after the echo.
-  pub breaks_echoed : (solving : Solving) (state : State) (new : Outside) → state ≡ to_run.state → BreaksAfter (quiet_job state) solving mid new (spool ++ rest) → BreaksJob to_run solving old new
+  pub breaks_echoed : (solving : Solving) (state : State) (new : Outside) → state ≡ to_run.state → BreaksAfter (quiet_program state) solving mid new (spool ++ rest) → BreaksProgram to_run solving old new
   breaks_echoed solving state new same b =
-      let r = subst (λ st. BreaksAfter (quiet_job st) solving mid new (spool ++ rest)) same b in
+      let r = subst (λ st. BreaksAfter (quiet_program st) solving mid new (spool ++ rest)) same b in
       record {
         solved = echoed state solving same b.solved;
         beginning = (r.beginning.0, record { bytes = first.bytes ++ r.beginning.1.bytes; written = output-both old mid new first.bytes r.beginning.1.bytes first.written r.beginning.1.written; split = values_first _ r.beginning.1.bytes r.beginning.0 r.beginning.1.split });
@@ -256,11 +256,11 @@ module _ (to_run : ProgramToRun) (old mid : Outside) (spool rest : List ℕ) (fi
 
 -- The echo itself was not written whole, and nothing was executed.
 pub breaks_first : (to_run : ProgramToRun) (before : Solvers) (answers : List (Answer Frac)) (old new : Outside) → answers ≡ [] → WritesPrefix old new (echo_text to_run.line to_run.file) →
-    BreaksJob to_run (record { before = before; after = before; answers = answers }) old new
+    BreaksProgram to_run (record { before = before; after = before; answers = answers }) old new
 breaks_first to_run before answers old new none f =
     let r = comes_to_rest to_run before 0 true (begin to_run before) [] (done_none to_run before) in
-    subst (λ (given : List (Answer Frac)). BreaksJob to_run (record { before = before; after = before; answers = given }) old new) (sym none) (record {
+    subst (λ (given : List (Answer Frac)). BreaksProgram to_run (record { before = before; after = before; answers = given }) old new) (sym none) (record {
       solved = r.solved;
-      beginning = front_longer (shown_by to_run (solving_with to_run before (begin to_run before))) f;
+      beginning = prefix_longer (shown_by to_run (solving_with to_run before (begin to_run before))) f;
       cut = inl (refl, refl);
     })

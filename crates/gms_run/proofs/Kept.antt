@@ -63,29 +63,29 @@ first_of n zero x xs e = let z : ⊥ = cc in absurd z
 first_of n (suc m) x xs e = (cc, (m, cc))
 
 module _ (rules : List SolverRule) (answers : List (Answer Frac)) where
-  abbrev Stands : OwnEvent Frac → Type 0
-  Stands = IsValidEvent frac_value frac_limit rules answers
+  abbrev Occurs : OwnEvent Frac → Type 0
+  Occurs = IsValidEvent frac_value frac_limit rules answers
 
   -- the answer at the place of each is one of it
-  stand : (es : List (OwnEvent Frac)) (n m : ℕ) → All Stands es → places_in (events_in frac_value es) ≡ range_with_len n m → (k : ℕ) → IfSome (slice_get (programs_in es) k) (IsAnsweredAt rules answers (n + k))
-  stand [] n m are is k = tt
-  stand (own.Display line items ∷ es) n m are is k = stand es n m (All-tail Stands (own.Display line items) es are) is k
-  stand (own.Abort line items ∷ es) n m are is k = stand es n m (All-tail Stands (own.Abort line items) es are) is k
-  stand (own.Fault stop ∷ es) n m are is k = stand es n m (All-tail Stands (own.Fault stop) es are) is k
-  stand (own.Solve line model equations lp answer solver settings level ∷ es) n m are is zero =
+  occur : (es : List (OwnEvent Frac)) (n m : ℕ) → All Occurs es → places_in (events_in frac_value es) ≡ range_with_len n m → (k : ℕ) → IfSome (slice_get (programs_in es) k) (IsAnsweredAt rules answers (n + k))
+  occur [] n m are is k = tt
+  occur (own.Display line items ∷ es) n m are is k = occur es n m (All-tail Occurs (own.Display line items) es are) is k
+  occur (own.Abort line items ∷ es) n m are is k = occur es n m (All-tail Occurs (own.Abort line items) es are) is k
+  occur (own.Fault stop ∷ es) n m are is k = occur es n m (All-tail Occurs (own.Fault stop) es are) is k
+  occur (own.Solve line model equations lp answer solver settings level ∷ es) n m are is zero =
       let first = first_of n m answer (places_in (events_in frac_value es)) is in
       let here : answer ≡ n + 0 = omega (arith, first.0) in
-      (settings, subst (λ place. IsValidSolve frac_value frac_limit rules answers lp place settings) here (All-head Stands (own.Solve line model equations lp answer solver settings level) es are))
-  stand (own.Solve line model equations lp answer solver settings level ∷ es) n m are is (suc k) =
+      (settings, subst (λ place. IsValidSolve frac_value frac_limit rules answers lp place settings) here (All-head Occurs (own.Solve line model equations lp answer solver settings level) es are))
+  occur (own.Solve line model equations lp answer solver settings level ∷ es) n m are is (suc k) =
       let first = first_of n m answer (places_in (events_in frac_value es)) is in
       let next : (n + 1) + k ≡ n + suc k = omega arith in
       subst (λ place. IfSome (slice_get (programs_in es) k) (IsAnsweredAt rules answers place)) next
-      (stand es (n + 1) first.1.0 (All-tail Stands (own.Solve line model equations lp answer solver settings level) es are) first.1.1 k)
+      (occur es (n + 1) first.1.0 (All-tail Occurs (own.Solve line model equations lp answer solver settings level) es are) first.1.1 k)
 
   -- Where the shown events are valid, and the solves take the answers in order, the programs are
   -- kept.
   pub keeps_programs : (course : Course) (es : List (OwnEvent Frac)) → IsNumbered course → course.events ≡ events_in frac_value es → course.taken ≡ length answers →
-      All Stands es → KeepsPrograms rules answers (programs_in es) course.events
+      All Occurs es → KeepsPrograms rules answers (programs_in es) course.events
   keeps_programs course es numbered same taken are =
       let in_order : places_in (events_in frac_value es) ≡ range_with_len 0 (length answers) = ap places_in (sym same) ∙ numbered ∙ ap (range_with_len 0) taken in
-      subst (KeepsPrograms rules answers (programs_in es)) (sym same) (record { shown = shows es; in_order = in_order; answered = λ place. subst (λ n. IfSome (slice_get (programs_in es) place) (IsAnsweredAt rules answers n)) (from_none place) (stand es 0 (length answers) are in_order place) })
+      subst (KeepsPrograms rules answers (programs_in es)) (sym same) (record { shown = shows es; in_order = in_order; answered = λ place. subst (λ n. IfSome (slice_get (programs_in es) place) (IsAnsweredAt rules answers n)) (from_none place) (occur es 0 (length answers) are in_order place) })

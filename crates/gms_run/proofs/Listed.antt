@@ -20,20 +20,20 @@ use Rattle.lp_slot.specs.declared.solver.SolverRule.{SolverRule}
 use Rattle.lp_core.specs.Numbers.{answer_numbers, lp_numbers}
 use Rattle.gms_exec.specs.Run.{Course, Halt, OfStatement, stopped, last_event, while_it_runs, in_sequence}
 use Rattle.gms_exec.specs.ValidEvents.{IsValidEvent}
-use Rattle.gms_exec.proofs.ValidCalls.{answered_by_standing}
+use Rattle.gms_exec.proofs.ValidCalls.{answered_by_valid}
 use Rattle.gms_list.specs.ListingText.{event_text, events_text}
 use Rattle.gms_list.specs.SolveText.{solve_text}
 use Rattle.gms_run.specs.Solving.{HavePathsExtended}
 use Rattle.gms_run.specs.InnerSteps.{Between, IsListed, course_at, programs_in}
 use Rattle.gms_run.proofs.Kept.{programs-append}
-use Rattle.gms_run.proofs.Paths.{grown_none, grown_more, stands-more}
+use Rattle.gms_run.proofs.Paths.{extended_none, extended_more, occurs-more}
 
 module _ (rules : List SolverRule) where
-  abbrev Stands : List (Answer Frac) → OwnEvent Frac → Type 0
-  Stands answers e = IsValidEvent frac_value frac_limit rules answers e
+  abbrev Occurs : List (Answer Frac) → OwnEvent Frac → Type 0
+  Occurs answers e = IsValidEvent frac_value frac_limit rules answers e
 
   -- an event that is valid with some answers is valid with more
-  valid-more : (answers more : List (Answer Frac)) (e : OwnEvent Frac) → Stands answers e → Stands (answers ++ more) e
+  valid-more : (answers more : List (Answer Frac)) (e : OwnEvent Frac) → Occurs answers e → Occurs (answers ++ more) e
   valid-more answers more (event.Display line items) is = is
   valid-more answers more (event.Abort line items) is = is
   valid-more answers more (event.Fault stop) is = is
@@ -41,16 +41,16 @@ module _ (rules : List SolverRule) where
       record {
         formed = is.formed;
         given = is.given;
-        stands = stands-more answers more answer is.given is.stands;
+        occurs = occurs-more answers more answer is.given is.occurs;
         rule = is.rule;
         chosen = is.chosen;
         is_answer = is.is_answer;
       }
 
-  pub all_standing-more : (answers more : List (Answer Frac)) (es : List (OwnEvent Frac)) → All (Stands answers) es → All (Stands (answers ++ more)) es
-  all_standing-more answers more [] is = All-nil (Stands (answers ++ more))
-  all_standing-more answers more (e ∷ es) is =
-      All-cons (Stands (answers ++ more)) e es (valid-more answers more e (All-head (Stands answers) e es is)) (all_standing-more answers more es (All-tail (Stands answers) e es is))
+  pub all_valid-more : (answers more : List (Answer Frac)) (es : List (OwnEvent Frac)) → All (Occurs answers) es → All (Occurs (answers ++ more)) es
+  all_valid-more answers more [] is = All-nil (Occurs (answers ++ more))
+  all_valid-more answers more (e ∷ es) is =
+      All-cons (Occurs (answers ++ more)) e es (valid-more answers more e (All-head (Occurs answers) e es is)) (all_valid-more answers more es (All-tail (Occurs answers) e es is))
 
   module _ (names labels : List (List ℕ)) where
     abbrev texts : List (Answer Frac) → List Event → List ℕ
@@ -60,21 +60,21 @@ module _ (rules : List SolverRule) where
     one_text answers e = event_text names labels frac_limit (map (answer_numbers frac_value) answers) e
 
     -- an event has the same text where more answers were given
-    text-more : (answers more : List (Answer Frac)) (e : OwnEvent Frac) → Stands answers e → one_text (answers ++ more) (event_in frac_value e) ≡ one_text answers (event_in frac_value e)
+    text-more : (answers more : List (Answer Frac)) (e : OwnEvent Frac) → Occurs answers e → one_text (answers ++ more) (event_in frac_value e) ≡ one_text answers (event_in frac_value e)
     text-more answers more (event.Display line items) is = refl
     text-more answers more (event.Abort line items) is = refl
     text-more answers more (event.Fault stop) is = refl
     text-more answers more (event.Solve line model equations lp answer solver settings level) is =
         let given = answer_numbers frac_value is.given in
-        let old : slice_get (map (answer_numbers frac_value) answers) answer ≡ Some given = slice_get-map (answer_numbers frac_value) answers answer ∙ ap (option_map (answer_numbers frac_value)) is.stands in
-        let new : slice_get (map (answer_numbers frac_value) (answers ++ more)) answer ≡ Some given = slice_get-map (answer_numbers frac_value) (answers ++ more) answer ∙ ap (option_map (answer_numbers frac_value)) (stands-more answers more answer is.given is.stands) in
+        let old : slice_get (map (answer_numbers frac_value) answers) answer ≡ Some given = slice_get-map (answer_numbers frac_value) answers answer ∙ ap (option_map (answer_numbers frac_value)) is.occurs in
+        let new : slice_get (map (answer_numbers frac_value) (answers ++ more)) answer ≡ Some given = slice_get-map (answer_numbers frac_value) (answers ++ more) answer ∙ ap (option_map (answer_numbers frac_value)) (occurs-more answers more answer is.given is.occurs) in
         let solved : Solved = record { line = line; model = model; equations = equations; lp = lp_numbers frac_value lp; answer = answer; solver = solver; settings = settings; objective_level = frac_value level } in
         ap (λ o. flat_map (solve_text names labels frac_limit solved) (option_to_list o)) (new ∙ sym old)
 
-    pub texts-more : (answers more : List (Answer Frac)) (es : List (OwnEvent Frac)) → All (Stands answers) es → texts (answers ++ more) (events_in frac_value es) ≡ texts answers (events_in frac_value es)
+    pub texts-more : (answers more : List (Answer Frac)) (es : List (OwnEvent Frac)) → All (Occurs answers) es → texts (answers ++ more) (events_in frac_value es) ≡ texts answers (events_in frac_value es)
     texts-more answers more [] is = refl
     texts-more answers more (e ∷ es) is =
-        ap (λ t. t ++ texts (answers ++ more) (events_in frac_value es)) (text-more answers more e (All-head (Stands answers) e es is)) ∙ ap (λ t. one_text answers (event_in frac_value e) ++ t) (texts-more answers more es (All-tail (Stands answers) e es is))
+        ap (λ t. t ++ texts (answers ++ more) (events_in frac_value es)) (text-more answers more e (All-head (Occurs answers) e es is)) ∙ ap (λ t. one_text answers (event_in frac_value e) ++ t) (texts-more answers more es (All-tail (Occurs answers) e es is))
 
 -- nothing was executed
 pub listed_none : (program : Program Frac) (rules : List SolverRule) (now : Between) (text : List ℕ) → IsListed true (λ c. c) program rules now now text text
@@ -87,7 +87,7 @@ listed_none program rules now text =
       answers = sym (append-nil now.answers);
       programs = sym (append-nil now.programs);
       valid = All-nil (IsValidEvent frac_value frac_limit rules now.answers);
-      extended = grown_none now.solvers now.answers;
+      extended = extended_none now.solvers now.answers;
       comes = λ events more. ap (λ es. course_at now es more None) (sym (append-nil events));
       text = sym (append-nil text);
     }
@@ -105,7 +105,7 @@ listed_more program rules continues first next a b c x y z p q =
       programs =
           q.programs ∙ ap (λ kept. kept ++ programs_in q.shown) p.programs ∙ append_assoc a.programs (programs_in p.shown) (programs_in q.shown)
           ∙ ap (λ kept. a.programs ++ kept) (sym (programs-append p.shown q.shown));
-      valid = All-append (IsValidEvent frac_value frac_limit rules c.answers) p.shown q.shown (subst (λ given. All (IsValidEvent frac_value frac_limit rules given) p.shown) (sym q.answers) (all_standing-more rules b.answers q.fresh p.shown p.valid)) q.valid;
+      valid = All-append (IsValidEvent frac_value frac_limit rules c.answers) p.shown q.shown (subst (λ given. All (IsValidEvent frac_value frac_limit rules given) p.shown) (sym q.answers) (all_valid-more rules b.answers q.fresh p.shown p.valid)) q.valid;
       extended = extended;
       comes = comes;
       text = q.text ∙ ap (λ t. t ++ last) before ∙ append_assoc x (texts_of c.answers p.shown) last ∙ ap (λ t. x ++ t) joined;
@@ -144,8 +144,8 @@ listed_more program rules continues first next a b c x y z p q =
     extended : HavePathsExtended a.solvers c.solvers c.answers (events_in frac_value (p.shown ++ q.shown))
     extended =
         subst (HavePathsExtended a.solvers c.solvers c.answers) (sym (map-append (event_in frac_value) p.shown q.shown))
-        (grown_more rules a.solvers b.solvers c.solvers b.answers q.fresh c.answers (events_in frac_value p.shown) (events_in frac_value q.shown) q.answers
-        (answered_by_standing frac_value frac_limit rules b.answers p.shown p.valid) p.extended q.extended)
+        (extended_more rules a.solvers b.solvers c.solvers b.answers q.fresh c.answers (events_in frac_value p.shown) (events_in frac_value q.shown) q.answers
+        (answered_by_valid frac_value frac_limit rules b.answers p.shown p.valid) p.extended q.extended)
 
     comes : (events : List Event) (more : List (Answer Number)) →
         while_it_runs next (first (course_at a events (numbers (p.fresh ++ q.fresh) ++ more) None)) ≡ course_at c (events ++ events_in frac_value (p.shown ++ q.shown)) more q.fault

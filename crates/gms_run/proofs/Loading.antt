@@ -75,12 +75,12 @@ module _ {F : Type 0} (value : F → Number) (program : Program F) (solvers : Li
   -- the definition that a statement is
   of-define : (before : List (Stmt F)) (at : Place) (equation : Named) (indices : List (Index F)) (condition : Option (Expr F)) (left_at : Place) (left : Expr F) (side : Side) (right_at : Place) (right : Expr F) →
       FollowsIn program before (record { at = at; act = Define equation indices condition left_at left side right_at right }) → All (IsFine first) (defined_at at (Define equation indices condition left_at left side right_at right))
-  of-define before at equation indices condition left_at left side right_at right stands =
+  of-define before at equation indices condition left_at left side right_at right occurs =
       let statement : Stmt F = record { at = at; act = Define equation indices condition left_at left side right_at right } in
       let known = known_after value program solvers (sound before) in
       let parts = uses-act statement known.state [] ∙ uses-Define known.state at [] equation indices condition left_at left side right_at right in
-      let defined = All-head (λ u. IsSound known u.1) (equation.at, defining equation.name (index_list indices)) _ (subst (AreSound known) parts (checked before statement stands)) in
-      if-no-lag first (index_list indices) _ refl (All-weaker (λ set. is_index_set (before_state before) set ≡ true) (IsOverOne first) (index-set-loaded value program before statement stands) (index_sets (index_list indices)) defined.2.sets)
+      let defined = All-head (λ u. IsSound known u.1) (equation.at, defining equation.name (index_list indices)) _ (subst (AreSound known) parts (checked before statement occurs)) in
+      if-no-lag first (index_list indices) _ refl (All-weaker (λ set. is_index_set (before_state before) set ≡ true) (IsOverOne first) (index-set-loaded value program before statement occurs) (index_sets (index_list indices)) defined.2.sets)
 
   of-act : (before : List (Stmt F)) (at : Place) (act : Act F) → FollowsIn program before (record { at = at; act = act }) → All (IsFine first) (defined_at at act)
   of-act before at act = by_parts P by act
@@ -92,17 +92,17 @@ module _ {F : Type 0} (value : F → Number) (program : Program F) (solvers : Li
       none = All-nil (IsFine {F = F} first)
 
       by : (layer : Act-F F (Act F) (Stmt F)) → P (roll-Act F layer)
-      by (Act-F.Declare kind items) = subst P (sym (rolls-Declare kind items)) (λ stands. none)
-      by (Act-F.Alias one other) = subst P (sym (rolls-Alias one other)) (λ stands. none)
-      by (Act-F.Assign target condition right_at right) = subst P (sym (rolls-Assign target condition right_at right)) (λ stands. none)
+      by (Act-F.Declare kind items) = subst P (sym (rolls-Declare kind items)) (λ occurs. none)
+      by (Act-F.Alias one other) = subst P (sym (rolls-Alias one other)) (λ occurs. none)
+      by (Act-F.Assign target condition right_at right) = subst P (sym (rolls-Assign target condition right_at right)) (λ occurs. none)
       by (Act-F.Define equation indices condition left_at left side right_at right) =
           subst P (sym (rolls-Define equation indices condition left_at left side right_at right)) (of-define before at equation indices condition left_at left side right_at right)
-      by (Act-F.Model models) = subst P (sym (rolls-Model models)) (λ stands. none)
-      by (Act-F.Solve model method objective maximize) = subst P (sym (rolls-Solve model method objective maximize)) (λ stands. none)
-      by (Act-F.Display items) = subst P (sym (rolls-Display items)) (λ stands. none)
-      by (Act-F.Loop control body) = subst P (sym (rolls-Loop control body)) (λ stands. none)
-      by (Act-F.Options settings) = subst P (sym (rolls-Options settings)) (λ stands. none)
-      by (Act-F.Abort condition items) = subst P (sym (rolls-Abort condition items)) (λ stands. none)
+      by (Act-F.Model models) = subst P (sym (rolls-Model models)) (λ occurs. none)
+      by (Act-F.Solve model method objective maximize) = subst P (sym (rolls-Solve model method objective maximize)) (λ occurs. none)
+      by (Act-F.Display items) = subst P (sym (rolls-Display items)) (λ occurs. none)
+      by (Act-F.Loop control body) = subst P (sym (rolls-Loop control body)) (λ occurs. none)
+      by (Act-F.Options settings) = subst P (sym (rolls-Options settings)) (λ occurs. none)
+      by (Act-F.Abort condition items) = subst P (sym (rolls-Abort condition items)) (λ occurs. none)
 
   from : (before statements : List (Stmt F)) → program.statements.items ≡ before ++ statements → All (IsFine first) (definitions statements)
   from before [] parts = All-nil (IsFine first)

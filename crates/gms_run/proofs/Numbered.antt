@@ -180,8 +180,8 @@ module _ {F : Type 0} (number_of : F → Number) (limit : ℕ) (world : World F)
   numbered_statements (s ∷ ss) = (numbered_statement s, numbered_statements ss)
 
 -- The solves of a program to run take its answers in order.
-pub numbered_job : (to_run : ProgramToRun) (solving : Solving) → IsNumbered (course_of to_run solving)
-numbered_job to_run solving =
+pub numbered_program : (to_run : ProgramToRun) (solving : Solving) → IsNumbered (course_of to_run solving)
+numbered_program to_run solving =
     let world : World Frac = record { program = to_run.program; solvers = solving.before.names } in
     numbered_all (map (of_statement frac_value frac_limit world) to_run.statements) (numbered_statements frac_value frac_limit world to_run.statements) []
     (record { state = to_run.state; events = []; left = numbers_of solving.answers; taken = 0; halted = None }) refl

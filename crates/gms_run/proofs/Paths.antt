@@ -53,10 +53,10 @@ paths_quiet k answers (aborts line items ∷ es) quiet = paths_quiet k answers e
 paths_quiet k answers (stops fault ∷ es) quiet = paths_quiet k answers es (All-tail IsNoSolve (stops fault) es quiet)
 
 -- an entry of a list keeps its place where more is appended
-pub stands-more : {A : Type 0} (xs ys : List A) (k : ℕ) (x : A) → slice_get xs k ≡ Some x → slice_get (xs ++ ys) k ≡ Some x
-stands-more [] ys k x e = let z : ⊥ = cc in absurd z
-stands-more (a ∷ xs) ys zero x e = e
-stands-more (a ∷ xs) ys (suc k) x e = stands-more xs ys k x e
+pub occurs-more : {A : Type 0} (xs ys : List A) (k : ℕ) (x : A) → slice_get xs k ≡ Some x → slice_get (xs ++ ys) k ≡ Some x
+occurs-more [] ys k x e = let z : ⊥ = cc in absurd z
+occurs-more (a ∷ xs) ys zero x e = e
+occurs-more (a ∷ xs) ys (suc k) x e = occurs-more xs ys k x e
 
 module _ (rules : List SolverRule) (answers more : List (Answer Frac)) where
   abbrev Answers_at : Event → Type 0
@@ -68,7 +68,7 @@ module _ (rules : List SolverRule) (answers more : List (Answer Frac)) where
   paths_stay k (displays line items ∷ es) are = paths_stay k es (All-tail Answers_at (displays line items) es are)
   paths_stay k (solves solved ∷ es) are =
       let is = All-head Answers_at (solves solved) es are in
-      let same : slice_get (answers ++ more) solved.answer ≡ slice_get answers solved.answer = stands-more answers more solved.answer is.answer is.stands ∙ sym is.stands in
+      let same : slice_get (answers ++ more) solved.answer ≡ slice_get answers solved.answer = occurs-more answers more solved.answer is.answer is.occurs ∙ sym is.occurs in
       ap (λ o. cond (solved.settings.solver == k) (option_to_list (option_map (λ (a : Answer Frac). a.pivots) o)) [] ++ paths_of k (answers ++ more) es) same
       ∙ ap (λ ps. path_of k answers solved ++ ps) (paths_stay k es (All-tail Answers_at (solves solved) es are))
   paths_stay k (aborts line items ∷ es) are = paths_stay k es (All-tail Answers_at (aborts line items) es are)
@@ -80,17 +80,17 @@ module _ (rules : List SolverRule) (answers more : List (Answer Frac)) where
 abbrev pub Grew : AllPaths → AllPaths → List (Answer Frac) → List Event → Type 0
 Grew old new answers es = (k : ℕ) → slice_get new k ≡ option_map (λ before. before ++ paths_of k answers es) (slice_get old k)
 
-grown_nothing : (paths : Option (List (List Pivot))) → paths ≡ option_map (λ before. before ++ []) paths
-grown_nothing None = refl
-grown_nothing (Some before) = ap Some (sym (append-nil before))
+extended_nothing : (paths : Option (List (List Pivot))) → paths ≡ option_map (λ before. before ++ []) paths
+extended_nothing None = refl
+extended_nothing (Some before) = ap Some (sym (append-nil before))
 
-grown_both : (paths : Option (List (List Pivot))) (first second : List (List Pivot)) → option_map (λ before. before ++ second) (option_map (λ before. before ++ first) paths) ≡ option_map (λ before. before ++ (first ++ second)) paths
-grown_both None first second = refl
-grown_both (Some before) first second = ap Some (append_assoc before first second)
+extended_both : (paths : Option (List (List Pivot))) (first second : List (List Pivot)) → option_map (λ before. before ++ second) (option_map (λ before. before ++ first) paths) ≡ option_map (λ before. before ++ (first ++ second)) paths
+extended_both None first second = refl
+extended_both (Some before) first second = ap Some (append_assoc before first second)
 
 -- nothing was shown
 pub grew_none : (paths : AllPaths) (answers : List (Answer Frac)) → Grew paths paths answers []
-grew_none paths answers = λ k. grown_nothing (slice_get paths k)
+grew_none paths answers = λ k. extended_nothing (slice_get paths k)
 
 -- two extensions in sequence, with more answers
 pub grew_more : (rules : List SolverRule) (old mid new : AllPaths) (answers fresh all : List (Answer Frac)) (first second : List Event) → all ≡ answers ++ fresh → AreAnswered frac_value frac_limit rules answers first →
@@ -100,7 +100,7 @@ grew_more rules old mid new answers fresh all first second same are p q = λ k.
     let grows : Option (List (List Pivot)) → List (List Pivot) → Option (List (List Pivot)) = λ paths taken. option_map (λ before. before ++ taken) paths in
     q k
     ∙ ap (λ paths. grows paths (paths_of k all second)) (p k ∙ ap (grows (slice_get old k)) stays)
-    ∙ grown_both (slice_get old k) (paths_of k all first) (paths_of k all second)
+    ∙ extended_both (slice_get old k) (paths_of k all first) (paths_of k all second)
     ∙ ap (grows (slice_get old k)) (sym (paths_both k all first second))
 
 -- events without a solve change nothing
@@ -119,21 +119,21 @@ grew_answered name rule paths old new answers none events empty a = λ k.
 -- ---- solvers
 
 -- nothing was shown
-pub grown_none : (solvers : Solvers) (answers : List (Answer Frac)) → HavePathsExtended solvers solvers answers []
-grown_none solvers answers = record { names = refl; rules = refl; paths = grew_none solvers.paths answers }
+pub extended_none : (solvers : Solvers) (answers : List (Answer Frac)) → HavePathsExtended solvers solvers answers []
+extended_none solvers answers = record { names = refl; rules = refl; paths = grew_none solvers.paths answers }
 
 -- two extensions in sequence, with more answers
-pub grown_more : (rules : List SolverRule) (old mid new : Solvers) (answers fresh all : List (Answer Frac)) (first second : List Event) → all ≡ answers ++ fresh → AreAnswered frac_value frac_limit rules answers first →
+pub extended_more : (rules : List SolverRule) (old mid new : Solvers) (answers fresh all : List (Answer Frac)) (first second : List Event) → all ≡ answers ++ fresh → AreAnswered frac_value frac_limit rules answers first →
     HavePathsExtended old mid answers first → HavePathsExtended mid new all second → HavePathsExtended old new all (first ++ second)
-grown_more rules old mid new answers fresh all first second same are p q =
+extended_more rules old mid new answers fresh all first second same are p q =
     record { names = q.names ∙ p.names; rules = q.rules ∙ p.rules; paths = grew_more rules old.paths mid.paths new.paths answers fresh all first second same are p.paths q.paths }
 
 -- events without a solve change nothing
-pub grown_quiet : (old new : Solvers) (answers : List (Answer Frac)) (es more : List Event) → All IsNoSolve more → HavePathsExtended old new answers es → HavePathsExtended old new answers (es ++ more)
-grown_quiet old new answers es more quiet p = record { names = p.names; rules = p.rules; paths = grew_quiet old.paths new.paths answers es more quiet p.paths }
+pub extended_quiet : (old new : Solvers) (answers : List (Answer Frac)) (es more : List Event) → All IsNoSolve more → HavePathsExtended old new answers es → HavePathsExtended old new answers (es ++ more)
+extended_quiet old new answers es more quiet p = record { names = p.names; rules = p.rules; paths = grew_quiet old.paths new.paths answers es more quiet p.paths }
 
 -- What a statement says of its solvers, where nothing was shown before it.
-pub grown_answered : {S : Type 0} {before after : State} {given : List (Answer Frac)} (name : S → List ℕ) (rule : S → SolverRule) (paths : S → List (List Pivot)) (old new : List S) (answers : List (Answer Frac)) (none events : List (OwnEvent Frac)) → none ≡ [] →
+pub extended_answered : {S : Type 0} {before after : State} {given : List (Answer Frac)} (name : S → List ℕ) (rule : S → SolverRule) (paths : S → List (List Pivot)) (old new : List S) (answers : List (Answer Frac)) (none events : List (OwnEvent Frac)) → none ≡ [] →
     Answered frac_value frac_limit name rule paths old new (record { state = before; events = none; answers = given }) (record { state = after; events = events; answers = answers }) → HavePathsExtended (solver_views name rule paths old) (solver_views name rule paths new) answers (events_in frac_value events)
-grown_answered name rule paths old new answers none events empty a =
+extended_answered name rule paths old new answers none events empty a =
     record { names = a.names; rules = a.rules; paths = grew_answered name rule paths old new answers none events empty a }

@@ -72,5 +72,5 @@ listable value limit rules answers (event.Fault stop) is = tt
 listable {F} value limit rules answers (event.Solve line model equations lp answer solver settings level) is =
     record {
       formed = is.formed;
-      stands = subst (λ (o : Option (Answer F)). IfSome o (λ a. HasProof value lp a.end)) (sym is.stands) (proved value limit lp settings.iterlim Legal is.given (legal_under value limit lp settings.iterlim is.rule is.given is.is_answer));
+      occurs = subst (λ (o : Option (Answer F)). IfSome o (λ a. HasProof value lp a.end)) (sym is.occurs) (proved value limit lp settings.iterlim Legal is.given (legal_under value limit lp settings.iterlim is.rule is.given is.is_answer));
     }

@@ -15,7 +15,7 @@ use Rattle.gq_frac.specs.Frac.{frac_value, frac_limit}
 use Rattle.gms_host.specs.Meaning.{Outside}
 use Rattle.gms_host.specs.Rules.{with_output}
 use Rattle.gms_host.specs.Spooling.{Passes, WritesPrefix}
-use Rattle.gms_host.proofs.WrittenPrefixes.{output-both, passes_behind, passes_none, passes_whole}
+use Rattle.gms_host.proofs.WrittenPrefixes.{output-both, passes_after, passes_none, passes_whole}
 use Rattle.gms_ast.specs.declared.program.Program.{Program}
 use Rattle.gms_ast.specs.declared.program.Stmt.{Stmt}
 use Rattle.gms_check.specs.declared.error.CompileError.{CompileError}
@@ -44,16 +44,16 @@ use Rattle.gms_run.specs.ProgramsToRun.{HaltsSo, IsCutOff, IsRunSolved, ProgramT
 use Rattle.gms_run.specs.Listings.{AreClosing, AreRemarks, IsAcceptedScript, IsExecuted, IsWrittenPrefix, IsProgramToRun, IsListing, IsModelLine, SavesLast, SavesSo, ShowsErrors, ShowsWhy, TellsModel, TellsRanges, TellsRun, TellsSpans, errors_text, refused_text, save_file, unrestored_text}
 use Rattle.gms_run.specs.Statuses.{IsUnwritten}
 use Rattle.gms_save.specs.declared.fault.SaveFault.{SaveFault}
-use Rattle.gms_run.specs.declared.script.LoadedInput.{LoadedInput as OwnMatter}
+use Rattle.gms_run.specs.declared.script.LoadedInput.{LoadedInput as OwnInput}
 use Rattle.gms_run.specs.declared.script.LoadedInput.TheVariants.{Unrestored}
 use Rattle.gms_run.specs.InnerReports.{Follows, IsGoneOn, IsRanged, IsRemarked, IsSave, IsTold, KeepsState, Lists, ListsErrors, Prepares, loaded_input_in}
 use Rattle.gms_run.specs.InnerSteps.{Ends, IsAnsweredAt, KeepsPrograms}
-use Rattle.gms_run.proofs.Executing.{BreaksJob, EndsJob}
+use Rattle.gms_run.proofs.Executing.{BreaksProgram, EndsProgram}
 use Rattle.gms_run.proofs.Saving.{placed-last, saves-state}
 
 -- after a spool and a text that are both empty comes the text itself
-pub behind_nothing : (spool before text : List ℕ) → spool ++ before ≡ [] → spool ++ (before ++ text) ≡ text
-behind_nothing spool before text empty = sym (append_assoc spool before text) ∙ ap (λ t. t ++ text) empty
+pub after_nothing : (spool before text : List ℕ) → spool ++ before ≡ [] → spool ++ (before ++ text) ≡ text
+after_nothing spool before text empty = sym (append_assoc spool before text) ∙ ap (λ t. t ++ text) empty
 
 -- a body of which nothing was written is pending
 all_pending : (status : Status) (solving : Solving) (now : Outside) (loaded_input : LoadedInput) (body pending : List ℕ) → IsListing status solving loaded_input (body ++ end_text (status_code status) (length solving.answers)) → pending ≡ body → status ≡ Compile → Prepares status solving now now loaded_input pending
@@ -70,8 +70,8 @@ pub echo_nowhere : (error : SourceError) (script : Script) → has_echo error �
 echo_nowhere error script has = ap (λ (b : Bool). cond b (echo_text script.line script.file) []) has
 
 -- two texts appended to another
-pub two_behind : (old echo mid line new : List ℕ) → mid ≡ old ++ echo → new ≡ mid ++ line → new ≡ old ++ (echo ++ line)
-two_behind old echo mid line new p q = q ∙ ap (λ t. t ++ line) p ∙ append_assoc old echo line
+pub two_after : (old echo mid line new : List ℕ) → mid ≡ old ++ echo → new ≡ mid ++ line → new ≡ old ++ (echo ++ line)
+two_after old echo mid line new p q = q ∙ ap (λ t. t ++ line) p ∙ append_assoc old echo line
 
 -- the listing of what is refused
 shows_refused : (solving : Solving) (loaded_input : LoadedInput) (listed : List ℕ) → SolvesNothing solving → ShowsWhy solving.before.names loaded_input (refused_text listed) → IsListing Compile solving loaded_input (listed ++ end_text (status_code Compile) (length solving.answers))
@@ -84,7 +84,7 @@ pub prepares_why : (status : Status) (solving : Solving) (now : Outside) (loaded
 prepares_why status solving now loaded_input spool before pending after listed same none empty kept put why =
     all_pending status solving now loaded_input listed _
     (subst (λ s. IsListing s solving loaded_input (listed ++ end_text (status_code s) (length solving.answers))) (sym same) (shows_refused solving loaded_input listed none why))
-    (ap₂ (λ a b. a ++ b) kept put ∙ behind_nothing spool before listed empty) same
+    (ap₂ (λ a b. a ++ b) kept put ∙ after_nothing spool before listed empty) same
 
 -- errors that are listed for these solvers are for the same
 pub lists_as : {X : Type 0} (name_of : X → List ℕ) (slice solvers : List X) (some : Bool) (script : Script) (program : Program Frac) (before after : List ℕ) → slice ≡ solvers →
@@ -116,8 +116,8 @@ prepares_errors solving now script program some spool before after is_program is
     (inr (shows_errors solving.before.names script program is_program listed.0))
 
 -- why there is nothing to run of a save that cannot be restored
-pub unrestored_why : (solvers : List (List ℕ)) (loaded_input : OwnMatter) (state : State) (fault : SaveFault) → loaded_input ≡ Unrestored fault → ShowsWhy solvers (loaded_input_in loaded_input state) (refused_text (unrestored_text fault))
-unrestored_why solvers loaded_input state fault is = subst (λ (m : OwnMatter). ShowsWhy solvers (loaded_input_in m state) (refused_text (unrestored_text fault))) (sym is) refl
+pub unrestored_why : (solvers : List (List ℕ)) (loaded_input : OwnInput) (state : State) (fault : SaveFault) → loaded_input ≡ Unrestored fault → ShowsWhy solvers (loaded_input_in loaded_input state) (refused_text (unrestored_text fault))
+unrestored_why solvers loaded_input state fault is = subst (λ (m : OwnInput). ShowsWhy solvers (loaded_input_in m state) (refused_text (unrestored_text fault))) (sym is) refl
 
 -- ---- runs
 
@@ -131,13 +131,13 @@ ends_line ReadFault halted n is = absurd is
 ends_line WriteFault halted n is = absurd is
 
 -- what is run of an accepted script
-abbrev pub job_of_script : (solvers : List (List ℕ)) (script : Script) (program : Program Frac) → IsAcceptedScript solvers script program → IsProgramToRun solvers (scripted script) (program_to_run script program)
-job_of_script solvers script program accepted = record { script = script; of_script = refl; accepted = accepted; is_to_run = refl }
+abbrev pub program_of_script : (solvers : List (List ℕ)) (script : Script) (program : Program Frac) → IsAcceptedScript solvers script program → IsProgramToRun solvers (scripted script) (program_to_run script program)
+program_of_script solvers script program accepted = record { script = script; of_script = refl; accepted = accepted; is_to_run = refl }
 
 -- a program that ended has its listing
-listed_job : (status : Status) (solving : Solving) (loaded_input : LoadedInput) (to_run : ProgramToRun) → IsProgramToRun solving.before.names loaded_input to_run → IsRunSolved to_run solving → HaltsSo status (course_of to_run solving).halted →
+listed_program : (status : Status) (solving : Solving) (loaded_input : LoadedInput) (to_run : ProgramToRun) → IsProgramToRun solving.before.names loaded_input to_run → IsRunSolved to_run solving → HaltsSo status (course_of to_run solving).halted →
     IsListing status solving loaded_input (body_of to_run solving ++ end_text (status_code status) (length solving.answers))
-listed_job status solving loaded_input to_run is_to_run solved halts = by status halts
+listed_program status solving loaded_input to_run is_to_run solved halts = by status halts
   where
     run : (s : Status) → HaltsSo s (course_of to_run solving).halted → IsExecuted solving loaded_input (body_of to_run solving ++ end_text (status_code s) (length solving.answers))
     run s h = record { to_run = to_run; is_to_run = is_to_run; solved = solved; listing = ap (λ t. body_of to_run solving ++ t) (ends_line s (course_of to_run solving).halted (length solving.answers) h) }
@@ -151,19 +151,19 @@ listed_job status solving loaded_input to_run is_to_run solved halts = by status
     by WriteFault h = absurd h
 
 -- The listing of a program that ended.
-pub prepares_job : (status : Status) (solving : Solving) (old new : Outside) (loaded_input : LoadedInput) (left : List ℕ) (to_run : ProgramToRun) (last : State) (programs : List (Lp Frac)) → IsProgramToRun solving.before.names loaded_input to_run →
-    EndsJob status to_run solving last programs old new left → Prepares status solving old new loaded_input left
-prepares_job status solving old new loaded_input left to_run last programs is_to_run e =
+pub prepares_program : (status : Status) (solving : Solving) (old new : Outside) (loaded_input : LoadedInput) (left : List ℕ) (to_run : ProgramToRun) (last : State) (programs : List (Lp Frac)) → IsProgramToRun solving.before.names loaded_input to_run →
+    EndsProgram status to_run solving last programs old new left → Prepares status solving old new loaded_input left
+prepares_program status solving old new loaded_input left to_run last programs is_to_run e =
     record {
       body = body_of to_run solving;
-      listing = listed_job status solving loaded_input to_run is_to_run e.ends.solved e.ends.halts;
+      listing = listed_program status solving loaded_input to_run is_to_run e.ends.solved e.ends.halts;
       passes = e.passes;
       within_bound = inr e.within_bound;
     }
 
 -- The listing of a program was cut off.
-pub unwritten_job : (solving : Solving) (old new : Outside) (loaded_input : LoadedInput) (to_run : ProgramToRun) → IsProgramToRun solving.before.names loaded_input to_run → BreaksJob to_run solving old new → IsUnwritten solving old new loaded_input
-unwritten_job solving old new loaded_input to_run is_to_run b =
+pub unwritten_program : (solving : Solving) (old new : Outside) (loaded_input : LoadedInput) (to_run : ProgramToRun) → IsProgramToRun solving.before.names loaded_input to_run → BreaksProgram to_run solving old new → IsUnwritten solving old new loaded_input
+unwritten_program solving old new loaded_input to_run is_to_run b =
     let line : List ℕ = last_line (course_of to_run solving).halted (length solving.answers) in
     record {
       text = program_listing to_run solving;
@@ -217,9 +217,9 @@ remarked status solving request loaded_input text to_run last solved is_to_run e
     tells (generated size) WriteFault h told = absurd h
 
 -- The save of the last state of a program that ended.
-pub saves_job : (status : Status) (solving : Solving) (request : Asked) (loaded_input : LoadedInput) (bytes : List ℕ) (to_run : ProgramToRun) (last : State) (programs : List (Lp Frac)) (solvers : List (List ℕ)) → solvers ≡ solving.before.names → All IsSolverName solving.before.names → (is_to_run : IsProgramToRun solving.before.names loaded_input to_run) → IfSome is_to_run.script.saved (IsGoneOn solving.before.names is_to_run.script.source is_to_run.script.line) → Ends status to_run solving last programs →
+pub saves_program : (status : Status) (solving : Solving) (request : Asked) (loaded_input : LoadedInput) (bytes : List ℕ) (to_run : ProgramToRun) (last : State) (programs : List (Lp Frac)) (solvers : List (List ℕ)) → solvers ≡ solving.before.names → All IsSolverName solving.before.names → (is_to_run : IsProgramToRun solving.before.names loaded_input to_run) → IfSome is_to_run.script.saved (IsGoneOn solving.before.names is_to_run.script.source is_to_run.script.line) → Ends status to_run solving last programs →
     IsSave status request solvers to_run.source to_run.program last bytes → SavesSo status solving request loaded_input bytes
-saves_job status solving request loaded_input bytes to_run last programs solvers names named is_to_run origin ends = by (save_file status request)
+saves_program status solving request loaded_input bytes to_run last programs solvers names named is_to_run origin ends = by (save_file status request)
   where
     by : (file : Option (List ℕ)) → IfSome file (λ f. KeepsState solvers to_run.source to_run.program last bytes) → IfSome file (λ f. SavesLast solving loaded_input bytes)
     by None is = tt
@@ -236,10 +236,10 @@ saves_job status solving request loaded_input bytes to_run last programs solvers
         }
 
 -- What follows the listing of a program that ended.
-pub follows_job : (status : Status) (solving : Solving) (request : Asked) (loaded_input : LoadedInput) (text bytes : List ℕ) (to_run : ProgramToRun) (last : State) (programs : List (Lp Frac)) (solvers : List (List ℕ)) → (is_to_run : IsProgramToRun solving.before.names loaded_input to_run) → IfSome is_to_run.script.saved (IsGoneOn solving.before.names is_to_run.script.source is_to_run.script.line) → Ends status to_run solving last programs →
+pub follows_program : (status : Status) (solving : Solving) (request : Asked) (loaded_input : LoadedInput) (text bytes : List ℕ) (to_run : ProgramToRun) (last : State) (programs : List (Lp Frac)) (solvers : List (List ℕ)) → (is_to_run : IsProgramToRun solving.before.names loaded_input to_run) → IfSome is_to_run.script.saved (IsGoneOn solving.before.names is_to_run.script.source is_to_run.script.line) → Ends status to_run solving last programs →
     IsRemarked request to_run.program last programs solving.answers text → IsSave status request solvers to_run.source to_run.program last bytes → solvers ≡ solving.before.names → All IsSolverName solving.before.names → Follows status solving request loaded_input text bytes
-follows_job status solving request loaded_input text bytes to_run last programs solvers is_to_run origin ends told saved names named =
-    record { remarks = remarked status solving request loaded_input text to_run last programs is_to_run ends told; saves = saves_job status solving request loaded_input bytes to_run last programs solvers names named is_to_run origin ends saved }
+follows_program status solving request loaded_input text bytes to_run last programs solvers is_to_run origin ends told saved names named =
+    record { remarks = remarked status solving request loaded_input text to_run last programs is_to_run ends told; saves = saves_program status solving request loaded_input bytes to_run last programs solvers names named is_to_run origin ends saved }
 
 -- On what is refused there are no remarks, and nothing is saved.
 pub nothing_follows : (status : Status) (solving : Solving) (request : Asked) (loaded_input : LoadedInput) (text bytes : List ℕ) → status ≡ Compile → text ≡ [] → Follows status solving request loaded_input text bytes
@@ -272,8 +272,8 @@ answered_by rules answers programs events kept =
   where
     at : (place : ℕ) (o : Option (Lp Frac)) → IfSome o (IsAnsweredAt rules answers place) → IfSome o (λ (lp : Lp Frac). IfSome (slice_get answers place) (IsSomeAnswer frac_value frac_limit lp))
     at place None h = tt
-    at place (Some lp) (settings, stands) =
-        subst (λ (o : Option (Answer Frac)). IfSome o (IsSomeAnswer frac_value frac_limit lp)) (sym stands.stands) (record { formed = stands.formed; iterlim = settings.iterlim; rule = Legal; is_answer = legal_under frac_value frac_limit lp settings.iterlim stands.rule stands.given stands.is_answer })
+    at place (Some lp) (settings, occurs) =
+        subst (λ (o : Option (Answer Frac)). IfSome o (IsSomeAnswer frac_value frac_limit lp)) (sym occurs.occurs) (record { formed = occurs.formed; iterlim = settings.iterlim; rule = Legal; is_answer = legal_under frac_value frac_limit lp settings.iterlim occurs.rule occurs.given occurs.is_answer })
 
 -- each solve of a program that ended is answered
 pub ends_answered : (status : Status) (to_run : ProgramToRun) (solving : Solving) (last : State) (programs : List (Lp Frac)) → Ends status to_run solving last programs → AreSomeAnswers frac_value frac_limit programs solving.answers
@@ -286,11 +286,11 @@ pub lists_ended : (status : Status) (solving : Solving) (old mid new : Outside) 
     new ≡ with_output mid (pending ++ end_text (status_code status) solves) → Lists status solving old new loaded_input
 lists_ended status solving old mid new loaded_input pending solves many p w =
     let line : ℕ → List ℕ = end_text (status_code status) in
-    record { text = p.body ++ line (length solving.answers); listing = p.listing; written = subst (λ n. new ≡ with_output old (p.body ++ line n)) many (passes_whole old mid new (p.body ++ line solves) (pending ++ line solves) (passes_behind (line solves) p.passes) w) }
+    record { text = p.body ++ line (length solving.answers); listing = p.listing; written = subst (λ n. new ≡ with_output old (p.body ++ line n)) many (passes_whole old mid new (p.body ++ line solves) (pending ++ line solves) (passes_after (line solves) p.passes) w) }
 
 -- taking all statements changes nothing
-whole_job : (to_run : ProgramToRun) (n : ℕ) → length to_run.statements ≤ n → first_of n to_run ≡ to_run
-whole_job to_run n h = ap (λ (ss : List (Stmt Frac)). record to_run { statements = ss }) (take_all n to_run.statements h)
+whole_program : (to_run : ProgramToRun) (n : ℕ) → length to_run.statements ≤ n → first_of n to_run ≡ to_run
+whole_program to_run n h = ap (λ (ss : List (Stmt Frac)). record to_run { statements = ss }) (take_all n to_run.statements h)
 
 -- a program whose statements were all executed is cut off where its text is not written
 cut_whole : (to_run : ProgramToRun) (solving : Solving) (written : ℕ) → (course_of to_run solving).left ≡ [] → length (body_of to_run solving) ≤ written + 4096 → IsCutOff to_run solving written
@@ -298,8 +298,8 @@ cut_whole to_run solving written taken pending =
     let n = length to_run.statements in
     inr (record {
       before = n;
-      taken = subst (λ (j : ProgramToRun). (course_of j solving).left ≡ []) (sym (whole_job to_run (n + 1) (omega arith))) taken;
-      held = subst (λ (j : ProgramToRun). length (body_of j solving) ≤ written + 4096) (sym (whole_job to_run n (omega arith))) pending;
+      taken = subst (λ (j : ProgramToRun). (course_of j solving).left ≡ []) (sym (whole_program to_run (n + 1) (omega arith))) taken;
+      held = subst (λ (j : ProgramToRun). length (body_of j solving) ≤ written + 4096) (sym (whole_program to_run n (omega arith))) pending;
     })
 
 -- two texts that end with the same line are equally long before it
@@ -310,9 +310,9 @@ as_long a b x y line e =
     omega (arith, n, m, length-append a x, length-append b y)
 
 -- a listing is an expected prefix, where its body is written except for at most one spool
-listed_front : (status : Status) (solving : Solving) (loaded_input : LoadedInput) (body : List ℕ) (written : ℕ) → (status ≡ Compile) ⊎ (length body ≤ written + 4096) → IsListing status solving loaded_input (body ++ end_text (status_code status) (length solving.answers)) →
+listed_prefix : (status : Status) (solving : Solving) (loaded_input : LoadedInput) (body : List ℕ) (written : ℕ) → (status ≡ Compile) ⊎ (length body ≤ written + 4096) → IsListing status solving loaded_input (body ++ end_text (status_code status) (length solving.answers)) →
     IsWrittenPrefix solving loaded_input (body ++ end_text (status_code status) (length solving.answers)) written
-listed_front status solving loaded_input body written within_bound is = by status within_bound is
+listed_prefix status solving loaded_input body written within_bound is = by status within_bound is
   where
     text : Status → List ℕ
     text s = body ++ end_text (status_code s) (length solving.answers)
@@ -334,9 +334,9 @@ listed_front status solving loaded_input body written within_bound is = by statu
     by WriteFault within_bound is = absurd is
 
 -- The listing was written up to a prefix.
-pub front_ended : (status : Status) (solving : Solving) (old mid new : Outside) (loaded_input : LoadedInput) (pending : List ℕ) (solves : ℕ) → solves ≡ length solving.answers → Prepares status solving old mid loaded_input pending →
+pub prefix_ended : (status : Status) (solving : Solving) (old mid new : Outside) (loaded_input : LoadedInput) (pending : List ℕ) (solves : ℕ) → solves ≡ length solving.answers → Prepares status solving old mid loaded_input pending →
     WritesPrefix mid new (pending ++ end_text (status_code status) solves) → IsUnwritten solving old new loaded_input
-front_ended status solving old mid new loaded_input pending solves many p beginning =
+prefix_ended status solving old mid new loaded_input pending solves many p beginning =
     let line : List ℕ = end_text (status_code status) (length solving.answers) in
     let f : WritesPrefix mid new (pending ++ line) = subst (λ n. WritesPrefix mid new (pending ++ end_text (status_code status) n)) many beginning in
     record {
@@ -347,7 +347,7 @@ front_ended status solving old mid new loaded_input pending solves many p beginn
         split = ap (λ t. t ++ line) p.passes.split ∙ append_assoc p.passes.bytes pending line ∙ ap (λ t. p.passes.bytes ++ t) f.1.split ∙ sym (append_assoc p.passes.bytes f.1.bytes f.0);
         outside = output-both old mid new p.passes.bytes f.1.bytes p.passes.written f.1.written;
       };
-      expected = listed_front status solving loaded_input p.body _ (elim p.within_bound [ inl e ↦ inl e | inr few ↦ inr (pends_over p.body p.passes.bytes f.1.bytes pending p.passes.split few) ]) p.listing;
+      expected = listed_prefix status solving loaded_input p.body _ (elim p.within_bound [ inl e ↦ inl e | inr few ↦ inr (pends_over p.body p.passes.bytes f.1.bytes pending p.passes.split few) ]) p.listing;
     }
   where
     pends_over : (body bytes more pending : List ℕ) → body ≡ bytes ++ pending → length pending ≤ 4096 → length body ≤ length (bytes ++ more) + 4096

@@ -24,9 +24,9 @@ use Rattle.gms_run.specs.ProgramsToRun.{IsRunSolved, ProgramToRun, course_of, fi
 use Rattle.gms_run.specs.InnerSteps.{Between, Ends, IsListed, KeepsPrograms, course_at}
 use Rattle.gms_run.proofs.Kept.{keeps_programs}
 use Rattle.gms_run.proofs.Listed.{halted_stays, in_two, texts-more}
-use Rattle.gms_run.proofs.Numbered.{numbered_job}
-use Rattle.gms_run.proofs.Paths.{grown_quiet}
-use Rattle.gms_run.proofs.Settled.{AreSettled, settled_by_standing, settled_more}
+use Rattle.gms_run.proofs.Numbered.{numbered_program}
+use Rattle.gms_run.proofs.Paths.{extended_quiet}
+use Rattle.gms_run.proofs.Settled.{AreSettled, settled_by_valid, settled_more}
 
 module _ (to_run : ProgramToRun) (before : Solvers) where
   abbrev pub statement_of : Stmt Frac → OfStatement
@@ -66,12 +66,12 @@ module _ (to_run : ProgramToRun) (before : Solvers) where
     so_far = events_in frac_value shown
 
     settled_with : (more : List Event) → All IsNoSolve more → AreSettled before.rules now.answers (so_far ++ more)
-    settled_with more unsolved = settled_more before.rules now.answers so_far more (settled_by_standing before.rules now.answers shown valid) unsolved
+    settled_with more unsolved = settled_more before.rules now.answers so_far more (settled_by_valid before.rules now.answers shown valid) unsolved
 
     -- what is shown by a run that continues from here
-    shown_behind : (course : Course) (more : List Event) → course_of to_run (solving_with now) ≡ course → course.events ≡ so_far ++ more →
+    shown_after : (course : Course) (more : List Event) → course_of to_run (solving_with now) ≡ course → course.events ≡ so_far ++ more →
         shown_by to_run (solving_with now) ≡ texts now.answers so_far ++ texts now.answers (more ++ last_event course.halted)
-    shown_behind course more is events =
+    shown_after course more is events =
         ap (λ c. texts now.answers (all_events c)) is
         ∙ ap (λ es. texts now.answers (es ++ last_event course.halted)) events
         ∙ ap (texts now.answers) (append_assoc so_far more (last_event course.halted))
@@ -108,14 +108,14 @@ module _ (to_run : ProgramToRun) (before : Solvers) where
     after_all = in_two statements i [] (course_at begin [] (map (answer_numbers frac_value) now.answers) None) ∙ ap (in_sequence (drop i statements) []) after_these
 
     settled_here : AreSettled before.rules now.answers (events_in frac_value p.shown)
-    settled_here = settled_by_standing before.rules now.answers p.shown p.valid
+    settled_here = settled_by_valid before.rules now.answers p.shown p.valid
 
     -- where the program shows no more than these events, the programs of its solves were kept
     kept_as : (course : Course) → course_of to_run (solving_with now) ≡ course → course.events ≡ events_in frac_value p.shown → course.taken ≡ length now.answers →
         KeepsPrograms before.rules now.answers now.programs (course_of to_run (solving_with now)).events
     kept_as course is same taken =
         subst (λ programs. KeepsPrograms before.rules now.answers programs (course_of to_run (solving_with now)).events) (sym p.programs)
-        (keeps_programs before.rules now.answers (course_of to_run (solving_with now)) p.shown (numbered_job to_run (solving_with now)) (ap (λ c. c.events) is ∙ same) (ap (λ c. c.taken) is ∙ taken) p.valid)
+        (keeps_programs before.rules now.answers (course_of to_run (solving_with now)) p.shown (numbered_program to_run (solving_with now)) (ap (λ c. c.events) is ∙ same) (ap (λ c. c.taken) is ∙ taken) p.valid)
 
   -- What the first statements show stays where more answers are given.
   pub shown_by_first : (i : ℕ) (now next : Between) (fresh : List (Answer Frac)) (text : List ℕ) → next.answers ≡ now.answers ++ fresh → Done_so true i now text → shown_by (first_of i to_run) (solving_with next) ≡ text
@@ -191,7 +191,7 @@ module _ (to_run : ProgramToRun) (before : Solvers) where
           let so : text ≡ texts now.answers es = p.text ∙ ap (λ f. texts now.answers (es ++ last_event (option_map stopped f))) e ∙ ap (texts now.answers) (append-nil es) in
           record {
             later = texts now.answers (quiet.more ++ last_event end.halted);
-            shown = shown_behind now p.shown p.valid end quiet.more is quiet.events ∙ ap (λ t. t ++ texts now.answers (quiet.more ++ last_event end.halted)) (sym so);
+            shown = shown_after now p.shown p.valid end quiet.more is quiet.events ∙ ap (λ t. t ++ texts now.answers (quiet.more ++ last_event end.halted)) (sym so);
             solved = solved_as now end is quiet.left (subst (AreSettled before.rules now.answers) (sym quiet.events) (settled_with now p.shown p.valid quiet.more quiet.unsolved))
-                (subst (HavePathsExtended before now.solvers now.answers) (sym quiet.events) (grown_quiet before now.solvers now.answers es quiet.more quiet.unsolved p.extended));
+                (subst (HavePathsExtended before now.solvers now.answers) (sym quiet.events) (extended_quiet before now.solvers now.answers es quiet.more quiet.unsolved p.extended));
           }

@@ -33,12 +33,12 @@ use Rattle.gms_run.proofs.Completeness.{one_value}
 -- ---- programs to run
 
 -- What is run of a script.
-record IsJobOf (solvers : List (List ℕ)) (script : Script) (to_run : ProgramToRun) : Type 0 where
+record IsProgramOf (solvers : List (List ℕ)) (script : Script) (to_run : ProgramToRun) : Type 0 where
   accepted : IsAcceptedScript solvers script to_run.program
   is : to_run ≡ program_to_run script to_run.program
 
 -- a source that is run from its start
-from-its-start : (solvers : List (List ℕ)) (source : List ℕ) (loaded_input : LoadedInput) (to_run : ProgramToRun) → IsLoadedInput solvers (from_start source) loaded_input → IsProgramToRun solvers loaded_input to_run → IsJobOf solvers (script_of source) to_run
+from-its-start : (solvers : List (List ℕ)) (source : List ℕ) (loaded_input : LoadedInput) (to_run : ProgramToRun) → IsLoadedInput solvers (from_start source) loaded_input → IsProgramToRun solvers loaded_input to_run → IsProgramOf solvers (script_of source) to_run
 from-its-start solvers source loaded_input to_run is j =
     let same : j.script ≡ script_of source = subst (IsLoadedInput solvers (from_start source)) j.of_script is in
     record {
@@ -50,7 +50,7 @@ from-its-start solvers source loaded_input to_run is j =
 record IsResumed (solvers : List (List ℕ)) (save file : List ℕ) (to_run : ProgramToRun) : Type 0 where
   saved : Saved
   back : GivesBack solvers save (let r : Result Saved SaveFaultOrMemory = Ok saved in r)
-  of : IsJobOf solvers (joint_script saved.source.items saved.store file) to_run
+  of : IsProgramOf solvers (joint_script saved.source.items saved.store file) to_run
 
 from-its-save : (solvers : List (List ℕ)) (save file : List ℕ) (loaded_input : LoadedInput) (to_run : ProgramToRun) → IsLoadedInput solvers (from_save save file) loaded_input → IsProgramToRun solvers loaded_input to_run → IsResumed solvers save file to_run
 from-its-save solvers save file loaded_input to_run is j =
@@ -107,13 +107,13 @@ own-solver : (state : State) (place : ℕ) → state.settings.solver ≡ place �
 own-solver state place e = ap (with_solver state) (sym e)
 
 -- restoring a save gives the last state back, and the run resumes from it
-resumes-last : (solvers : List (List ℕ)) (save source file : List ℕ) (program : Program Frac) (last : State) (solver : List ℕ) (to_run : ProgramToRun) → IsSaveOf save source program last solver → place_of_solver solvers solver ≡ Some last.settings.solver → IsResumed solvers save file to_run → IsJobOf solvers (joint_script source last file) to_run
+resumes-last : (solvers : List (List ℕ)) (save source file : List ℕ) (program : Program Frac) (last : State) (solver : List ℕ) (to_run : ProgramToRun) → IsSaveOf save source program last solver → place_of_solver solvers solver ≡ Some last.settings.solver → IsResumed solvers save file to_run → IsProgramOf solvers (joint_script source last file) to_run
 resumes-last solvers save source file program last solver to_run is_save placed resumes =
     let back : IsBack solvers resumes.saved source program last solver = resumes.back source program last solver is_save in
     let same : last.settings.solver ≡ resumes.saved.store.settings.solver = one_value placed back.placed in
     let state : resumes.saved.store ≡ last = back.state_is ∙ own-solver last resumes.saved.store.settings.solver same in
     let script : joint_script resumes.saved.source.items resumes.saved.store file ≡ joint_script source last file = ap₂ (λ (bytes : List ℕ) (s : State). joint_script bytes s file) back.source_is state in
-    subst (λ (it : Script). IsJobOf solvers it to_run) script resumes.of
+    subst (λ (it : Script). IsProgramOf solvers it to_run) script resumes.of
 
 -- ---- both
 
@@ -143,11 +143,11 @@ module _ (first second long : Solving) (source file : List ℕ) (restart : IsRes
   kept : IsKept first source restart.save saved
   kept = is-kept first source restart.save restart.text restart.base restart.starts restart.done restart.saves
 
-  of-long : IsJobOf long.before.names (script_of joint_text) to_run
+  of-long : IsProgramOf long.before.names (script_of joint_text) to_run
   of-long = from-its-start long.before.names joint_text (scripted (script_of joint_text)) to_run refl is_long.is_to_run
 
   -- the file's run resumes from the last state
-  of-last : (other : ProgramToRun) → IsProgramToRun second.before.names restart.loaded_input other → IsJobOf first.before.names (joint_script source last file) other
+  of-last : (other : ProgramToRun) → IsProgramToRun second.before.names restart.loaded_input other → IsProgramOf first.before.names (joint_script source last file) other
   of-last other is_to_run =
       resumes-last first.before.names restart.save source file saved last (solver_name first.before.names last) other kept.is_save kept.placed
       (subst (λ (solvers : List (List ℕ)). IsResumed solvers restart.save file other) restart.same_solvers (from-its-save second.before.names restart.save file restart.loaded_input other restart.resumes is_to_run))

@@ -38,12 +38,12 @@ placed-below solvers solver place e some = by (bytes_eq solver (codes "none")) (
     by false none n is p = (position-Some (λ name. str_eq_ignore_ascii_case name solver) solvers place [] p).0
 
 -- a tuple in a domain is as long as the domain
-stands-long : (labels : ℕ) (state : State) (domain : List (Option ℕ)) (t : List ℕ) → fits_domain labels state domain t ≡ true → length t ≡ length domain
-stands-long labels state [] [] e = refl
-stands-long labels state [] (label ∷ t) e = absurd (let z : ⊥ = cc in z)
-stands-long labels state (set ∷ domain) [] e = absurd (let z : ⊥ = cc in z)
-stands-long labels state (set ∷ domain) (label ∷ t) e =
-    ap suc (stands-long labels state domain t ((and_parts (fits_position state set label) _ ((and_parts _ _ e).1)).1))
+occurs-long : (labels : ℕ) (state : State) (domain : List (Option ℕ)) (t : List ℕ) → fits_domain labels state domain t ≡ true → length t ≡ length domain
+occurs-long labels state [] [] e = refl
+occurs-long labels state [] (label ∷ t) e = absurd (let z : ⊥ = cc in z)
+occurs-long labels state (set ∷ domain) [] e = absurd (let z : ⊥ = cc in z)
+occurs-long labels state (set ∷ domain) (label ∷ t) e =
+    ap suc (occurs-long labels state domain t ((and_parts (fits_position state set label) _ ((and_parts _ _ e).1)).1))
 
 -- what holds of all tuples with data holds of all members
 members-given : (P : List ℕ → Type 0) (content : Content) → All P (given_in content) → All P (members_in content)
@@ -79,6 +79,6 @@ can_go_on solvers save saved restored file =
       arity = λ name.
           let symbol = symbol_at saved.store name in
           members-given (λ t. length t ≡ length symbol.domain) symbol.content
-          (All-weaker _ (λ t. length t ≡ length symbol.domain) (stands-long _ saved.store symbol.domain) (given_in symbol.content) (is.given name).stand);
+          (All-weaker _ (λ t. length t ≡ length symbol.domain) (occurs-long _ saved.store symbol.domain) (given_in symbol.content) (is.given name).occur);
       declares = λ program is_program. saved_fits saved.source.items file saved.program program saved.store restored.solver restored.is_save.is_program is_program restored.is_save.is_saved;
     }

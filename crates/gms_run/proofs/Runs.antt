@@ -46,8 +46,8 @@ long_refusal a b text long more r = by_fault r.refused
     by_fault (inr (inr syntactic)) = let few : length a.source ≤ most_source_bytes = syntactic.short in absurd (omega (arith, long, few))
 
 -- nothing is run of a script that is too long
-no_job : (solvers : List (List ℕ)) (script : Script) (to_run : ProgramToRun) → most_source_bytes < length script.source → IsProgramToRun solvers (scripted script) to_run → ⊥
-no_job solvers script to_run long is =
+no_program : (solvers : List (List ℕ)) (script : Script) (to_run : ProgramToRun) → most_source_bytes < length script.source → IsProgramToRun solvers (scripted script) to_run → ⊥
+no_program solvers script to_run long is =
     let same : is.script ≡ script = one_script (sym is.of_script) in
     let few : length is.script.source ≤ most_source_bytes = is.accepted.is_program.short in
     let size : length is.script.source ≡ length script.source = ap (λ (s : Script). length s.source) same in
@@ -68,7 +68,7 @@ module _ (solving : Solving) (a b : Script) (long : most_source_bytes < length a
 
   -- neither is executed
   no_run : (text : List ℕ) → IsExecuted solving (scripted a) text → ⊥
-  no_run text run = no_job solving.before.names a run.to_run long run.is_to_run
+  no_run text run = no_program solving.before.names a run.to_run long run.is_to_run
 
   -- the same is listed
   long_listing : (status : Status) (text : List ℕ) → IsListing status solving (scripted a) text → IsListing status solving (scripted b) text
@@ -80,14 +80,14 @@ module _ (solving : Solving) (a b : Script) (long : most_source_bytes < length a
   long_listing WriteFault text is = absurd is
 
   -- and the same prefix is expected
-  long_front : (text : List ℕ) (written : ℕ) → IsWrittenPrefix solving (scripted a) text written → IsWrittenPrefix solving (scripted b) text written
-  long_front text written (inl refused) = inl (long_refused text refused)
-  long_front text written (inr run) = absurd (no_run text run.0)
+  long_prefix : (text : List ℕ) (written : ℕ) → IsWrittenPrefix solving (scripted a) text written → IsWrittenPrefix solving (scripted b) text written
+  long_prefix text written (inl refused) = inl (long_refused text refused)
+  long_prefix text written (inr run) = absurd (no_run text run.0)
 
   long_ranges : (asked : Bool) (status : Status) (text : List ℕ) → TellsRanges asked status solving (scripted a) text → TellsRanges asked status solving (scripted b) text
   long_ranges false status text said = said
-  long_ranges true Done text said = absurd (no_job solving.before.names a said.to_run long said.is_to_run)
-  long_ranges true Execution text said = absurd (no_job solving.before.names a said.to_run long said.is_to_run)
+  long_ranges true Done text said = absurd (no_program solving.before.names a said.to_run long said.is_to_run)
+  long_ranges true Execution text said = absurd (no_program solving.before.names a said.to_run long said.is_to_run)
   long_ranges true Compile text said = said
   long_ranges true Usage text said = said
   long_ranges true ReadFault text said = said
@@ -96,8 +96,8 @@ module _ (solving : Solving) (a b : Script) (long : most_source_bytes < length a
   long_told : (o : Origin) (status : Status) (line : List ℕ) → TellsRun status solving o (scripted a) line → TellsRun status solving o (scripted b) line
   long_told (in_file file) status line told = told
   long_told (restarted saved file) status line told = told
-  long_told (generated size) Done line told = absurd (no_job solving.before.names a told.to_run long told.is_to_run)
-  long_told (generated size) Execution line told = absurd (no_job solving.before.names a told.to_run long told.is_to_run)
+  long_told (generated size) Done line told = absurd (no_program solving.before.names a told.to_run long told.is_to_run)
+  long_told (generated size) Execution line told = absurd (no_program solving.before.names a told.to_run long told.is_to_run)
   long_told (generated size) Compile line told = told
   long_told (generated size) Usage line told = told
   long_told (generated size) ReadFault line told = told
@@ -114,7 +114,7 @@ module _ (solving : Solving) (a b : Script) (long : most_source_bytes < length a
     where
       by : (file : Option (List ℕ)) → IfSome file (λ f. SavesLast solving (scripted a) save) → IfSome file (λ f. SavesLast solving (scripted b) save)
       by None is = tt
-      by (Some file) is = absurd (no_job solving.before.names a is.to_run long is.is_to_run)
+      by (Some file) is = absurd (no_program solving.before.names a is.to_run long is.is_to_run)
 
   long_reported : (status : Status) (old new : Outside) (request : Asked) → IsReported status solving old new request (scripted a) → IsReported status solving old new request (scripted b)
   long_reported status old new request r =
@@ -123,9 +123,9 @@ module _ (solving : Solving) (a b : Script) (long : most_source_bytes < length a
   -- what could not be written is the same
   long_unwritten : (old new : Outside) (request : Asked) → IsWriteFault solving old new request (scripted a) → IsWriteFault solving old new request (scripted b)
   long_unwritten old new request (inl u) = inl u
-  long_unwritten old new request (inr (inl u)) = inr (inl (record { text = u.text; prefix = u.prefix; expected = long_front u.text (length u.prefix.added) u.expected }))
+  long_unwritten old new request (inr (inl u)) = inr (inl (record { text = u.text; prefix = u.prefix; expected = long_prefix u.text (length u.prefix.added) u.expected }))
   long_unwritten old new request (inr (inr (inl u))) = inr (inr (inl (record { status = u.status; text = u.text; listing = long_listing u.status u.text u.listing; outside = u.outside })))
-  long_unwritten old new request (inr (inr (inr (inl u)))) = absurd (no_job solving.before.names a u.saves.to_run long u.saves.is_to_run)
+  long_unwritten old new request (inr (inr (inr (inl u)))) = absurd (no_program solving.before.names a u.saves.to_run long u.saves.is_to_run)
   long_unwritten old new request (inr (inr (inr (inr u)))) =
       inr (inr (inr (inr (record { status = u.status; text = u.text; listing = long_listing u.status u.text u.listing; save = u.save; saves = long_saves u.status request u.save u.saves; lines = u.lines; closing = long_closing u.status request u.lines u.closing; beginning = u.beginning }))))
 
@@ -259,10 +259,10 @@ of_unrestored (Ok status) solving old new request save file fault is ran = recor
 of_unrestored (Err e) solving old new request save file fault is ran = tt
 
 -- A run of a file that was read after its save is the run of that file.
-pub of_behind : (r : Result Status AllocError) (solving : Solving) (old mid new : Meaning) (request : Asked) (save file : List ℕ) (source : Vec ℕ Global) (bytes : List ℕ) → bytes ≡ source.items → ReadsFile (most_source_bytes + 1) (done_with source) old.outside mid.outside file →
+pub of_after : (r : Result Status AllocError) (solving : Solving) (old mid new : Meaning) (request : Asked) (save file : List ℕ) (source : Vec ℕ Global) (bytes : List ℕ) → bytes ≡ source.items → ReadsFile (most_source_bytes + 1) (done_with source) old.outside mid.outside file →
     IfOk r (λ status. RanOf status solving mid.outside new.outside request (from_save save bytes)) → IfOk r (λ status. RanAfter status solving old new request save file)
-of_behind (Err e) solving old mid new request save file source bytes same read ran = tt
-of_behind (Ok status) solving old mid new request save file source bytes same read ran = by status ran
+of_after (Err e) solving old mid new request save file source bytes same read ran = tt
+of_after (Ok status) solving old mid new request save file source bytes same read ran = by status ran
   where
     whole : List ℕ
     whole = read.0
@@ -286,11 +286,11 @@ of_behind (Ok status) solving old mid new request save file source bytes same re
     by ReadFault r = absurd r.ran
 
 -- A file that resumes from a save could not be read, and the read fault line was printed.
-pub unread_behind : (r : Result Status AllocError) (solving : Solving) (old mid new : Meaning) (request : Asked) (save file : List ℕ) → IsUnread old.outside mid.outside file → CountsReading (let x : Result (Vec ℕ Global) Failed = Err Fault in x) (IsThere old.outside file) old.counts mid.counts →
+pub unread_after : (r : Result Status AllocError) (solving : Solving) (old mid new : Meaning) (request : Asked) (save file : List ℕ) → IsUnread old.outside mid.outside file → CountsReading (let x : Result (Vec ℕ Global) Failed = Err Fault in x) (IsThere old.outside file) old.counts mid.counts →
     IfOk r (λ status. status ≡ ReadFault) → OnOk r (SaysLine mid new mid.outside (read_fault_line file)) → SolvesNothing solving → IfOk r (λ status. RanAfter status solving old new request save file)
-unread_behind (Ok status) solving old mid new request save file not counts same said none =
+unread_after (Ok status) solving old mid new request save file not counts same said none =
     subst (λ s. RanAfter s solving old new request save file) (sym same) (record { before = mid.outside; unread = not; said = says_from old mid new (read_fault_line file) (IsThere old.outside file) counts said }, none)
-unread_behind (Err e) solving old mid new request save file not counts same said none = tt
+unread_after (Err e) solving old mid new request save file not counts same said none = tt
 
 -- A run of the first bytes of a save, and of the file after it, is what was run for a request.
 pub of_restart : (r : Result Status AllocError) (solving : Solving) (old mid new : Meaning) (request : Asked) (saved file : List ℕ) (save : Vec ℕ Global) (bytes : List ℕ) → request.source ≡ restarted saved file → bytes ≡ save.items → ReadsFile (most_save_bytes + 1) (done_with save) old.outside mid.outside saved →

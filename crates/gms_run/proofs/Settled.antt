@@ -27,7 +27,7 @@ use Rattle.lp_nocycle.proofs.SameForm.{same_count}
 use Rattle.gms_exec.specs.Answering.{AreAnswered, IsAnswered}
 use Rattle.gms_exec.specs.ValidEvents.{IsValidEvent, IsValidSolve}
 use Rattle.gms_exec.proofs.Quiet.{IsNoSolve}
-use Rattle.gms_exec.proofs.ValidCalls.{answered_by_standing}
+use Rattle.gms_exec.proofs.ValidCalls.{answered_by_valid}
 use Rattle.gms_run.specs.Searches.{IsEnough, SearchEnds, SearchesEnd}
 use Rattle.gms_run.proofs.Completeness.{one_value}
 
@@ -56,7 +56,7 @@ module _ (rules : List SolverRule) (answers : List (Answer Frac)) where
   solve_ends lp place settings is rule chosen enough =
       let under : IsAnswerUnder frac_value frac_limit lp settings.iterlim rule is.given = subst (λ r. IsAnswerUnder frac_value frac_limit lp settings.iterlim r is.given) (one_value is.chosen chosen) is.is_answer in
       let pivots : IsEnough rule (variable_count frac_value lp) settings.iterlim = subst (λ n. IsEnough rule n settings.iterlim) (same_count frac_value lp) enough in
-      subst (λ (o : Option (Answer Frac)). IfSome o (λ answer. ¬ (IsInterrupted answer.end))) (sym is.stands)
+      subst (λ (o : Option (Answer Frac)). IfSome o (λ answer. ¬ (IsInterrupted answer.end))) (sym is.occurs)
       (ends_under lp settings.iterlim is.formed rule is.given under pivots)
 
   one_ends : (e : OwnEvent Frac) → IsValidEvent frac_value frac_limit rules answers e → SearchEnds rules answers (event_in frac_value e)
@@ -72,8 +72,8 @@ module _ (rules : List SolverRule) (answers : List (Answer Frac)) where
       (all_end shown (All-tail (IsValidEvent frac_value frac_limit rules answers) e shown is))
 
   -- Valid events are settled.
-  pub settled_by_standing : (shown : List (OwnEvent Frac)) → All (IsValidEvent frac_value frac_limit rules answers) shown → AreSettled (events_in frac_value shown)
-  settled_by_standing shown is = (answered_by_standing frac_value frac_limit rules answers shown is, all_end shown is)
+  pub settled_by_valid : (shown : List (OwnEvent Frac)) → All (IsValidEvent frac_value frac_limit rules answers) shown → AreSettled (events_in frac_value shown)
+  settled_by_valid shown is = (answered_by_valid frac_value frac_limit rules answers shown is, all_end shown is)
 
   -- ---- what is no solve
 

@@ -24,10 +24,10 @@ module _ (most : ℕ) where
     pub counts : CountsReading all_done (Unit {0}) old.counts now.counts
 
   -- the bytes so far, after one more read
-  front_more : (input : Option (List ℕ)) (taken items buffer : List ℕ) (count : ℕ) → IfSome input (λ bytes. taken ≡ take (length taken) bytes) → IfSome (option_map (λ (bytes : List ℕ). drop (length taken) bytes) input) (λ bytes. GivesFirst bytes count buffer) →
+  prefix_more : (input : Option (List ℕ)) (taken items buffer : List ℕ) (count : ℕ) → IfSome input (λ bytes. taken ≡ take (length taken) bytes) → IfSome (option_map (λ (bytes : List ℕ). drop (length taken) bytes) input) (λ bytes. GivesFirst bytes count buffer) →
       length items ≡ length taken + count → items ≡ taken ++ take count buffer → IfSome input (λ bytes. items ≡ take (length items) bytes)
-  front_more None taken items buffer count so g n e = tt
-  front_more (Some bytes) taken items buffer count so g n e =
+  prefix_more None taken items buffer count so g n e = tt
+  prefix_more (Some bytes) taken items buffer count so g n e =
       e ∙ ap (λ (x : List ℕ). x ++ take count buffer) so ∙ ap (λ (x : List ℕ). take (length taken) bytes ++ x) g.given ∙ sym (take-add (length taken) count bytes) ∙ ap (λ (k : ℕ). take k bytes) (sym n)
 
   -- what the input gives, after a read took more off
@@ -44,7 +44,7 @@ module _ (most : ℕ) where
       let input : now.outside.input ≡ option_map (λ (bytes : List ℕ). drop (length taken) bytes) old.outside.input = ap (λ (o : Outside). o.input) so.outside in
       record {
         few = omega (arith, n, within_bound, few);
-        beginning = front_more old.outside.input taken items buffer count so.beginning (subst (λ (o : Option (List ℕ)). IfSome o (λ bytes. GivesFirst bytes count buffer)) input r.0) n e';
+        beginning = prefix_more old.outside.input taken items buffer count so.beginning (subst (λ (o : Option (List ℕ)). IfSome o (λ bytes. GivesFirst bytes count buffer)) input r.0) n e';
         outside =
             r.1
             ∙ ap (λ (o : Outside). record o { input = option_map (λ (bytes : List ℕ). drop count bytes) now.outside.input }) so.outside
@@ -123,14 +123,14 @@ module _ (most : ℕ) where
   read_start old =
       record {
         few = omega arith;
-        beginning = by_front old.outside.input;
+        beginning = by_prefix old.outside.input;
         outside = ap (λ (i : Option (List ℕ)). record old.outside { input = i }) (same old.outside.input);
         counts = reading_none tt (Unit {0}) old.counts;
       }
     where
-      by_front : (i : Option (List ℕ)) → IfSome i (λ bytes. [] ≡ take (length {A = ℕ} []) bytes)
-      by_front None = tt
-      by_front (Some bytes) = refl
+      by_prefix : (i : Option (List ℕ)) → IfSome i (λ bytes. [] ≡ take (length {A = ℕ} []) bytes)
+      by_prefix None = tt
+      by_prefix (Some bytes) = refl
 
       same : (i : Option (List ℕ)) → i ≡ option_map (λ (bytes : List ℕ). drop (length {A = ℕ} []) bytes) i
       same None = refl

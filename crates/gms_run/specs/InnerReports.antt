@@ -30,7 +30,7 @@ use Rattle.gms_command.specs.CommandLine.{Asked, Origin, in_file, restarted, gen
 use Rattle.gms_run.specs.declared.status.Status.{Status}
 use Rattle.gms_run.specs.declared.status.Status.TheVariants.{Compile, ReadFault, WriteFault}
 use Rattle.gms_run.specs.declared.script.Script.{Script as OwnScript}
-use Rattle.gms_run.specs.declared.script.LoadedInput.{LoadedInput as OwnMatter}
+use Rattle.gms_run.specs.declared.script.LoadedInput.{LoadedInput as OwnInput}
 use Rattle.gms_run.specs.declared.script.LoadedInput.TheVariants.{ToRun, Unrestored}
 use Rattle.gms_run.specs.Solving.{Solving, SolvesNothing, numbers_of}
 use Rattle.gms_run.specs.Scripts.{Script, LoadedInput, scripted, unrestored, RunInput, from_save, IsLoadedInput, first_line, first_state, joint_source}
@@ -54,7 +54,7 @@ script_in script state =
     record { source = script.source.now; file = script.file.now; line = script.line; saved = saved_if script.joint state }
 
 -- the view of a loaded input
-abbrev pub loaded_input_in : OwnMatter → State → LoadedInput
+abbrev pub loaded_input_in : OwnInput → State → LoadedInput
 loaded_input_in (ToRun script) state = scripted (script_in script state)
 loaded_input_in (Unrestored fault) state = unrestored fault
 
@@ -212,8 +212,8 @@ RanAfter status solving old new request save file =
 -- ---- requests
 
 -- the loaded input was run as the status says, unless memory ran out
-abbrev pub RunsMatter : Result Status AllocError → Asked → LoadedInput → Moment → Moment → Type 0
-RunsMatter result request loaded_input old new =
+abbrev pub RunsInput : Result Status AllocError → Asked → LoadedInput → Moment → Moment → Type 0
+RunsInput result request loaded_input old new =
     IfOk result (λ status. RanSo status (solved_between old new) old.host.outside new.host.outside request loaded_input)
 
 -- the same of the input that was read

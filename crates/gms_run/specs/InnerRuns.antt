@@ -63,8 +63,8 @@ solved_between old new = record { before = old.solvers; after = new.solvers; ans
 
 -- The statements of a program to run were executed after the pending text: to their end, or up to
 -- a statement whose listing was not written.
-abbrev pub ExecutesJob : Result Status Failed → ProgramToRun → Moment → Moment → Type 0
-ExecutesJob result to_run old new =
+abbrev pub ExecutesProgram : Result Status Failed → ProgramToRun → Moment → Moment → Type 0
+ExecutesProgram result to_run old new =
     ResultsIn result
     (λ status. EndsAfter status to_run (solved_between old new) new.run.store new.run.solved.items old.host.outside new.host.outside (pending old.run) (pending new.run))
     (BreaksAfter to_run (solved_between old new) old.host.outside new.host.outside (pending old.run))

@@ -16,7 +16,7 @@ ghost use Rattle.gms_host.specs.Rules.{CountsWriting};
 ghost use Rattle.gms_host.specs.Spooling.{Passes, WritesPrefix};
 ghost use Rattle.gms_command.specs.CommandLine.{asked_by};
 ghost use Rattle.gms_run.specs.InnerReports.{Begins, HasRemarks, HasRest, HasSave, ListsBody, script_in};
-ghost use Rattle.gms_run.specs.InnerRuns.{ExecutesJob, IsFresh, IsUnsolved, ListsStatement, moment, pending};
+ghost use Rattle.gms_run.specs.InnerRuns.{ExecutesProgram, IsFresh, IsUnsolved, ListsStatement, moment, pending};
 ghost use Rattle.gms_run.specs.InnerSteps.{CanExecute, ResultsIn, programs_in, work};
 ghost use Rattle.gms_run.specs.Scripts.{scripted, statements_to_run};
 ghost use Rattle.gms_run.specs.Solving.{numbers_of, solver_views};
@@ -250,7 +250,7 @@ impl Run {
         requires can_execute { CanExecute program.now (length solvers.old.items) self.old.store }
         requires unsolved { IsUnsolved self.old }
         requires within_bound { length (pending self.old) ≤ 4096 }
-        ensures outside { ExecutesJob result (work program.now self.old.store list.now)
+        ensures outside { ExecutesProgram result (work program.now self.old.store list.now)
             (moment name rule paths (H.meaning host.old) solvers.old.items self.old)
             (moment name rule paths (H.meaning host.new) solvers.new.items self.new) }
         ensures counts { CountsWriting result (H.meaning host.old).counts (H.meaning host.new).counts }
@@ -280,7 +280,7 @@ impl Run {
         requires can_execute { CanExecute program.now (length solvers.old.items) self.old.store }
         requires unsolved { IsUnsolved self.old }
         requires within_bound { length (pending self.old) ≤ 4096 }
-        ensures outside { (state : State) → ExecutesJob result (work program.now self.old.store (statements_to_run (script_in script.entry state).saved script.entry.line program.now))
+        ensures outside { (state : State) → ExecutesProgram result (work program.now self.old.store (statements_to_run (script_in script.entry state).saved script.entry.line program.now))
             (moment name rule paths (H.meaning host.old) solvers.old.items self.old)
             (moment name rule paths (H.meaning host.new) solvers.new.items self.new) }
         ensures remarks { IfOk result (λ status. HasRemarks (asked_by request.entry) program.now self.new) }

@@ -5,7 +5,7 @@ ghost use Rattle.gms_host.specs.Rules.{CountsWriting, IsThere};
 ghost use Rattle.gms_lex.specs.Tokens.{most_source_bytes};
 ghost use Rattle.gms_command.specs.CommandLine.{texts, request_of, asked_by, in_file, restarted, generated, read_fault_line};
 ghost use Rattle.gms_run.specs.Headline.{HasListing, WritesListing, file_alone};
-ghost use Rattle.gms_run.specs.InnerReports.{CanContinue, CountsMention, CountsRun, EndsAs, IsSoundInput, Reports, RunsAfter, RunsMatter, RunsRequest, RunsTaken, RunsWords, loaded_input_in};
+ghost use Rattle.gms_run.specs.InnerReports.{CanContinue, CountsMention, CountsRun, EndsAs, IsSoundInput, Reports, RunsAfter, RunsInput, RunsRequest, RunsTaken, RunsWords, loaded_input_in};
 ghost use Rattle.gms_run.specs.InnerRuns.{IsFresh, moment};
 ghost use Rattle.gms_run.specs.Laws.{RunIsAnsweredRightly};
 ghost use Rattle.gms_run.specs.Scripts.{first_line, from_save, joint_script, joint_source, script_of, scripted};
@@ -115,7 +115,7 @@ fn run_loaded<H: Host>(
     requires few { length solvers.old.items < 2 ^ 32 }
     requires fresh { IsFresh run.old }
     requires sound { IsSoundInput (map name solvers.old.items) (loaded_input_in loaded_input run.old.store) }
-    ensures ran { RunsMatter result (asked_by request.entry) (loaded_input_in loaded_input.entry run.old.store)
+    ensures ran { RunsInput result (asked_by request.entry) (loaded_input_in loaded_input.entry run.old.store)
         (moment name rule paths (H.meaning host.old) solvers.old.items run.old)
         (moment name rule paths (H.meaning host.new) solvers.new.items run.new) }
     ensures counts { CountsRun result ((H.meaning host.old).counts.reliable ≡ true) (H.meaning host.old).counts (H.meaning host.new).counts }
@@ -136,7 +136,7 @@ fn run_source<H: Host>(
 ) -> Result<Status, AllocError>
     requires few { length solvers.old.items < 2 ^ 32 }
     requires fresh { IsFresh run.old }
-    ensures ran { RunsMatter result (asked_by request.entry) (scripted (script_of source.now))
+    ensures ran { RunsInput result (asked_by request.entry) (scripted (script_of source.now))
         (moment name rule paths (H.meaning host.old) solvers.old.items run.old)
         (moment name rule paths (H.meaning host.new) solvers.new.items run.new) }
     ensures counts { CountsRun result ((H.meaning host.old).counts.reliable ≡ true) (H.meaning host.old).counts (H.meaning host.new).counts }
@@ -165,7 +165,7 @@ fn run_joint<H: Host>(
     requires fresh { IsFresh run.old }
     requires short { length saved.old.source.items ≤ most_source_bytes }
     requires sound { CanContinue (map name solvers.old.items) (joint_source saved.old.source.items file.now) (first_line saved.old.source.items) saved.old.store }
-    ensures ran { RunsMatter result (asked_by request.entry) (scripted (joint_script saved.old.source.items saved.old.store file.now))
+    ensures ran { RunsInput result (asked_by request.entry) (scripted (joint_script saved.old.source.items saved.old.store file.now))
         (moment name rule paths (H.meaning host.old) solvers.old.items run.old)
         (moment name rule paths (H.meaning host.new) solvers.new.items run.new) }
     ensures counts { CountsRun result ((H.meaning host.old).counts.reliable ≡ true) (H.meaning host.old).counts (H.meaning host.new).counts }

@@ -63,7 +63,7 @@ module _ (test : ℕ → Bool) (one other : State) (agree : AgreeOn test one oth
 
     under-same : (binding : Pairs) → given_under v limit other target right_at right binding ≡ given_under v limit one target right_at right binding
     under-same binding =
-        ap (λ (s : Symbol). chosen s binding (membership v limit other binding right) (value v limit other binding right)) (agree.stands target.name is)
+        ap (λ (s : Symbol). chosen s binding (membership v limit other binding right) (value v limit other binding right)) (agree.occurs target.name is)
         ∙ ap (λ (so : Answer Bool). chosen (symbol_of one target.name) binding so (value v limit other binding right)) (membership-same right rights binding)
         ∙ ap (chosen (symbol_of one target.name) binding (membership v limit one binding right)) (value-same test one other agree v limit right rights binding)
 

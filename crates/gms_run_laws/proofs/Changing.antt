@@ -104,7 +104,7 @@ module _ (first base : State) where
       pub over-agree : AgreeOn (declares first) a b
       over-agree = record {
         own = over.same;
-        stands = λ n is. ap (symbol_at b) (base-same n is) ∙ over.same (base_of a n) (base-declared n is);
+        occurs = λ n is. ap (symbol_at b) (base-same n is) ∙ over.same (base_of a n) (base-declared n is);
       }
 
       module _ (name : ℕ) (is : declares first name ≡ true) (f : Symbol → Symbol) (change : IsChange f) where
@@ -119,7 +119,7 @@ module _ (first base : State) where
 
         here-b : symbol_at (with_symbol b name new_b) (base_of b name) ≡ new_b
         here-b =
-            set-here b.symbols (base_of b name) new_b (within b (base_of b name) (ap (λ (s : Symbol). not (is_undeclared s.content)) (over-agree.stands name is) ∙ over.declared (base_of a name) ∙ base-declared name is))
+            set-here b.symbols (base_of b name) new_b (within b (base_of b name) (ap (λ (s : Symbol). not (is_undeclared s.content)) (over-agree.occurs name is) ∙ over.declared (base_of a name) ∙ base-declared name is))
 
         -- what a change of a symbol keeps is kept of each name
         kept : {X : Type 0} (what : ℕ → Symbol → X) → ((n : ℕ) (s : Symbol) → what n (f s) ≡ what n s) → (n : ℕ) → what n (symbol_at (with_symbol a name new_a) n) ≡ what n (symbol_at a n)
@@ -136,7 +136,7 @@ module _ (first base : State) where
                 let at : n ≡ base_of a name = eqb-true n (base_of a name) e in
                 ap (symbol_at (with_symbol b name new_b)) (at ∙ sym (base-same name is))
                 ∙ here-b
-                ∙ ap f (over-agree.stands name is)
+                ∙ ap f (over-agree.occurs name is)
                 ∙ sym (ap (symbol_at (with_symbol a name new_a)) at ∙ here-a)
             by false e =
                 let apart : n ≡ base_of a name → ⊥ = λ at. both_ways (n == base_of a name) e (eq-eqb n (base_of a name) at) in

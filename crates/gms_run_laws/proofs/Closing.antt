@@ -32,8 +32,8 @@ own (variable_of type entries) m e = absurd (cc)
 own (equation_of entries) m e = absurd (cc)
 own (model_with model solver) m e = absurd (cc)
 
-abbrev StandsWell : State → ℕ → Symbol → Type 0
-StandsWell state name new = (alias_target name new.content ≡ name) ⊎ (declares state (alias_target name new.content) ≡ true)
+abbrev OccursWell : State → ℕ → Symbol → Type 0
+OccursWell state name new = (alias_target name new.content ≡ name) ⊎ (declares state (alias_target name new.content) ≡ true)
 
 module _ (state : State) (name : ℕ) (new : Symbol) (gains : Gains (symbol_at state name) new) where
   abbrev next : State
@@ -50,7 +50,7 @@ module _ (state : State) (name : ℕ) (new : Symbol) (gains : Gains (symbol_at s
 
   -- a state stays closed where a declared name changes, or a new one stands for itself or for a
   -- declared name
-  closed-put : IsClosed state → (is_undeclared (symbol_at state name).content ≡ true → StandsWell state name new) → IsClosed next
+  closed-put : IsClosed state → (is_undeclared (symbol_at state name).content ≡ true → OccursWell state name new) → IsClosed next
   closed-put closed fresh n is = elim (put-at state name new n) [
     | inl same ↦ subst (λ m. declares next m ≡ true) (sym (ap (λ (s : Symbol). alias_target n s.content) same)) (stays-declared (base_of state n) (closed n (sym (ap (λ (s : Symbol). not (is_undeclared s.content)) same) ∙ is)))
     | inr changed ↦ by (is_undeclared (symbol_at state name).content) refl changed.0 changed.1

@@ -21,10 +21,10 @@ later-declared old new (inr after) is = ap not after.declared
 
 module _ {F : Type 0} (value : F → Number) (program : Program F) where
   pub declared-later : (before : List (Stmt F)) (statement : Stmt F) → FollowsIn program before statement → (n : ℕ) → declares (state_after value (length program.names) (sound before)) n ≡ true → declares (loaded value program) n ≡ true
-  declared-later before statement stands n is =
-      let rest : List (Stmt F) = statement ∷ stands.0 in
+  declared-later before statement occurs n is =
+      let rest : List (Stmt F) = statement ∷ occurs.0 in
       let blank = blank_state (length program.names) in
       let now = state_after value (length program.names) (sound before) in
       let fits = (grows-past value (sound before) blank n (blank-fits (length program.names) n)).0 in
-      let grows : Grows now (loaded value program) = subst (Grows now) (sym (ap (λ (all : List (Stmt F)). fold (after_statement value) blank (sound all)) stands.1 ∙ ap (fold (after_statement value) blank) (map-append {B = Stmt F × Bool} (λ (s : Stmt F). (s, true)) before rest) ∙ fold-append (after_statement value) blank (sound before) (sound rest))) (grows-past value (sound rest) now) in
+      let grows : Grows now (loaded value program) = subst (Grows now) (sym (ap (λ (all : List (Stmt F)). fold (after_statement value) blank (sound all)) occurs.1 ∙ ap (fold (after_statement value) blank) (map-append {B = Stmt F × Bool} (λ (s : Stmt F). (s, true)) before rest) ∙ fold-append (after_statement value) blank (sound before) (sound rest))) (grows-past value (sound rest) now) in
       later-declared (symbol_at now n) (symbol_at (loaded value program) n) (grows n fits).1 is

@@ -59,7 +59,7 @@ same-kinds a b same n =
     ∙ ap read same
     ∙ (ap (λ (s : Symbol). kind_in s.content) (blanked-at b.symbols n) ∙ emptied-kind (symbol_at b n).content)
 
-module _ {F : Type 0} (v : F → Number) (limit : ℕ) (world : World F) (state : State) (lasts : IsLasting v world.program state) (before : List (Stmt F)) (statement : Stmt F) (stands : FollowsIn world.program before statement) where
+module _ {F : Type 0} (v : F → Number) (limit : ℕ) (world : World F) (state : State) (lasts : IsLasting v world.program state) (before : List (Stmt F)) (statement : Stmt F) (occurs : FollowsIn world.program before statement) where
   -- what is declared where the statement stands
   abbrev then_state : State
   then_state = state_after v (length world.program.names) (sound before)
@@ -68,12 +68,12 @@ module _ {F : Type 0} (v : F → Number) (limit : ℕ) (world : World F) (state 
   pub kind-now : (n : ℕ) → has_no_declaration then_state n ≡ false → declared_kind state n ≡ declared_kind then_state n
   kind-now n declared =
       same-kinds state (loaded v world.program) lasts.later.declares n
-      ∙ kind-loaded v world.program before statement stands n declared
+      ∙ kind-loaded v world.program before statement occurs n declared
 
   -- and over the same domain
   pub domain-now : (n : ℕ) → has_no_declaration then_state n ≡ false → (symbol_at state n).domain ≡ (symbol_at then_state n).domain
   domain-now n declared =
-      (lasts.stays n).domain ∙ domain-loaded v world.program before statement stands n declared
+      (lasts.stays n).domain ∙ domain-loaded v world.program before statement occurs n declared
 
 -- ---- elements
 

@@ -42,17 +42,17 @@ module _ {F : Type 0} (program : Program F) (P : Definition F → Type 0) (each 
       Q a = FollowsIn program before (record { at = at; act = a }) → All P (defined_at at a)
 
       by : (layer : Act-F F (Act F) (Stmt F)) → Q (roll-Act F layer)
-      by (Act-F.Declare kind items) = subst Q (sym (rolls-Declare kind items)) (λ stands. All-nil P)
-      by (Act-F.Alias one other) = subst Q (sym (rolls-Alias one other)) (λ stands. All-nil P)
-      by (Act-F.Assign target condition right_at right) = subst Q (sym (rolls-Assign target condition right_at right)) (λ stands. All-nil P)
+      by (Act-F.Declare kind items) = subst Q (sym (rolls-Declare kind items)) (λ occurs. All-nil P)
+      by (Act-F.Alias one other) = subst Q (sym (rolls-Alias one other)) (λ occurs. All-nil P)
+      by (Act-F.Assign target condition right_at right) = subst Q (sym (rolls-Assign target condition right_at right)) (λ occurs. All-nil P)
       by (Act-F.Define equation indices condition left_at left side right_at right) =
           subst Q (sym (rolls-Define equation indices condition left_at left side right_at right)) (each before at equation indices condition left_at left side right_at right)
-      by (Act-F.Model models) = subst Q (sym (rolls-Model models)) (λ stands. All-nil P)
-      by (Act-F.Solve model method objective maximize) = subst Q (sym (rolls-Solve model method objective maximize)) (λ stands. All-nil P)
-      by (Act-F.Display items) = subst Q (sym (rolls-Display items)) (λ stands. All-nil P)
-      by (Act-F.Loop control body) = subst Q (sym (rolls-Loop control body)) (λ stands. All-nil P)
-      by (Act-F.Options settings) = subst Q (sym (rolls-Options settings)) (λ stands. All-nil P)
-      by (Act-F.Abort condition items) = subst Q (sym (rolls-Abort condition items)) (λ stands. All-nil P)
+      by (Act-F.Model models) = subst Q (sym (rolls-Model models)) (λ occurs. All-nil P)
+      by (Act-F.Solve model method objective maximize) = subst Q (sym (rolls-Solve model method objective maximize)) (λ occurs. All-nil P)
+      by (Act-F.Display items) = subst Q (sym (rolls-Display items)) (λ occurs. All-nil P)
+      by (Act-F.Loop control body) = subst Q (sym (rolls-Loop control body)) (λ occurs. All-nil P)
+      by (Act-F.Options settings) = subst Q (sym (rolls-Options settings)) (λ occurs. All-nil P)
+      by (Act-F.Abort condition items) = subst Q (sym (rolls-Abort condition items)) (λ occurs. All-nil P)
 
   from : (before statements : List (Stmt F)) → program.statements.items ≡ before ++ statements → All P (definitions statements)
   from before [] parts = All-nil P

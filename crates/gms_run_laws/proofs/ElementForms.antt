@@ -130,11 +130,11 @@ module _ {F : Type 0} (v : F → Number) (limit : ℕ) (known : Known F) (state 
 
   -- ---- rows
 
-  module _ (d : Definition F) (left_standing right_standing : Context) (around : List ℕ) (defined : IsClean known (defining d.equation d.indices)) (left : AreClean known (uses left_standing d.left_at around d.left)) (right : AreClean known (uses right_standing d.right_at around d.right)) where
+  module _ (d : Definition F) (left_context right_context : Context) (around : List ℕ) (defined : IsClean known (defining d.equation d.indices)) (left : AreClean known (uses left_context d.left_at around d.left)) (right : AreClean known (uses right_context d.right_at around d.right)) where
     form-elements : (binding : Pairs) → OkHas Keyed (row_form v limit state d binding)
     form-elements binding =
-        then-has Keyed Keyed (affine v limit state d.left_at binding d.left) (λ one. affine v limit state d.right_at binding d.right and_then λ other. sum_of_forms limit d.right_at binding true one other) (affine-elements d.left left_standing d.left_at around left d.left_at binding)
-        (λ one has. then-has Keyed Keyed (affine v limit state d.right_at binding d.right) (λ other. sum_of_forms limit d.right_at binding true one other) (affine-elements d.right right_standing d.right_at around right d.right_at binding) (λ other too. sum-keyed Column limit d.right_at binding true one other has too))
+        then-has Keyed Keyed (affine v limit state d.left_at binding d.left) (λ one. affine v limit state d.right_at binding d.right and_then λ other. sum_of_forms limit d.right_at binding true one other) (affine-elements d.left left_context d.left_at around left d.left_at binding)
+        (λ one has. then-has Keyed Keyed (affine v limit state d.right_at binding d.right) (λ other. sum_of_forms limit d.right_at binding true one other) (affine-elements d.right right_context d.right_at around right d.right_at binding) (λ other too. sum-keyed Column limit d.right_at binding true one other has too))
 
     row : (t : List ℕ) → length t ≡ index_count d.indices → Row (record { symbol = d.equation; tuple = t })
     row t long =

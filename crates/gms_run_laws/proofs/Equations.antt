@@ -375,12 +375,12 @@ module _ {F : Type 0} (v : F → Number) (program : Program F) (accepted : IsAcc
   pub padded-then : (before rest : List (Stmt F)) → program.statements.items ≡ before ++ rest → Padded count (state_after v count (sound before)) (state_after v count (sound before))
   padded-then before rest is = padded-after count v count (omega arith) before (names-then before rest is).0
 
-  module _ (before : List (Stmt F)) (outer : Stmt F) (tail : List (Stmt F)) (stands : program.statements.items ≡ before ++ outer ∷ tail) where
+  module _ (before : List (Stmt F)) (outer : Stmt F) (tail : List (Stmt F)) (occurs : program.statements.items ≡ before ++ outer ∷ tail) where
     abbrev then_state : State
     then_state = state_after v count (sound before)
 
     parts : (done rest : List (Stmt F)) (s : Stmt F) → before ≡ done ++ s ∷ rest → program.statements.items ≡ done ++ s ∷ (rest ++ outer ∷ tail)
-    parts done rest s is = stands ∙ ap (λ (ss : List (Stmt F)). ss ++ outer ∷ tail) is ∙ append_assoc done (s ∷ rest) (outer ∷ tail)
+    parts done rest s is = occurs ∙ ap (λ (ss : List (Stmt F)). ss ++ outer ∷ tail) is ∙ append_assoc done (s ∷ rest) (outer ∷ tail)
 
     state-parts : (done rest : List (Stmt F)) (s : Stmt F) → before ≡ done ++ s ∷ rest → then_state ≡ fold (after_statement v) (after_act v (state_after v count (sound done)) s.act) (sound rest)
     state-parts done rest s is =

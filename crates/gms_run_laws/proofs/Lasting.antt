@@ -80,7 +80,7 @@ module _ {F : Type 0} (P : ℕ → Type 0) where
   each-inside zero inner outer same all = subst (λ s. Each P (assigned_names s)) same all
   each-inside (suc depth) inner outer inside all =
       let body = subst (Each P) (assigned-loop outer inside.control inside.body inside.loop) all in
-      each-inside depth inner inside.next inside.holds (each-one_of inside.before inside.rest inside.next (subst (λ statements. Each P (flat_map assigned_names statements)) inside.stands body))
+      each-inside depth inner inside.next inside.holds (each-one_of inside.before inside.rest inside.next (subst (λ statements. Each P (flat_map assigned_names statements)) inside.occurs body))
 
 -- ---- reached states
 
@@ -91,7 +91,7 @@ module _ {F : Type 0} (v : F → Number) (limit : ℕ) (world : World F) (first 
   may-all : (s : Stmt F) → IsStatementOf world.program s → Each (MayBe first among) (assigned_names s)
   may-all s of_program =
       let all = among-made (base_of first) (flat_map assigned_names world.program.statements.items) in
-      each-inside (MayBe first among) of_program.depth s of_program.outer of_program.inside (each-one_of (MayBe first among) of_program.before of_program.stands.0 of_program.outer (subst (λ statements. Each (MayBe first among) (flat_map assigned_names statements)) of_program.stands.1 all))
+      each-inside (MayBe first among) of_program.depth s of_program.outer of_program.inside (each-one_of (MayBe first among) of_program.before of_program.occurs.0 of_program.outer (subst (λ statements. Each (MayBe first among) (flat_map assigned_names statements)) of_program.occurs.1 all))
 
   allowed : (names : List ℕ) → Each (MayBe first among) names → AreAllowed v limit world (Lasts first among) (MayBe first among) (lasts-given first among) (lasts-end first among) (λ s options lasts. lasts-options first among v world.solvers s options lasts) names
   allowed [] all = tt

@@ -125,9 +125,9 @@ module _ {F : Type 0} (number_of : F → Number) (limit : ℕ) (world : World F)
   Q s = IsLater (of_statement number_of limit world s)
 
   -- the statements of a body do, from a proof for each
-  body_behind : (body : List ((s : Stmt F) × Q s)) → AreLater (map (of_statement number_of limit world) (map (λ e. e.0) body))
-  body_behind [] = tt
-  body_behind (e ∷ body) = (e.1, body_behind body)
+  body_after : (body : List ((s : Stmt F) × Q s)) → AreLater (map (of_statement number_of limit world) (map (λ e. e.0) body))
+  body_after [] = tt
+  body_after (e ∷ body) = (e.1, body_after body)
 
   -- the claim for an act, from that for its unrolled form
   rolled : (x : Act-F F (Act F) (Stmt F)) (f : OfAct) → of_act (roll-Act F x) ≡ f → IsLaterAct f → IsLaterAct (of_act (roll-Act F x))
@@ -152,7 +152,7 @@ module _ {F : Type 0} (number_of : F → Number) (limit : ℕ) (world : World F)
   by_layer (Act-F.Options settings) = rolled (Act-F.Options settings) _ (fold-roll-Act F OfAct OfStatement (act_step number_of limit world) (statement_step number_of limit) (Act-F.Options settings)) (λ k prefix at binding c. refl)
   by_layer (Act-F.Abort condition items) = rolled (Act-F.Abort condition items) _ (fold-roll-Act F OfAct OfStatement (act_step number_of limit world) (statement_step number_of limit) (Act-F.Abort condition items)) (later_abort_where (labels_in world) (option_map tree_of condition) items)
   by_layer (Act-F.Solve model word objective maximize) = rolled (Act-F.Solve model word objective maximize) _ (fold-roll-Act F OfAct OfStatement (act_step number_of limit world) (statement_step number_of limit) (Act-F.Solve model word objective maximize)) (later_solve world.solvers world.program.statements.items model.name objective.name maximize)
-  by_layer (Act-F.Loop control body) = rolled (map-Act F ((a : Act F) × IsLaterAct (of_act a)) ((s : Stmt F) × Q s) (Act F) (Stmt F) (λ e. e.0) (λ e. e.0) (Act-F.Loop control body)) _ (fold-roll-Act F OfAct OfStatement (act_step number_of limit world) (statement_step number_of limit) (map-Act F ((a : Act F) × IsLaterAct (of_act a)) ((s : Stmt F) × Q s) (Act F) (Stmt F) (λ e. e.0) (λ e. e.0) (Act-F.Loop control body))) (later_loop (control_tree control) _ (body_behind body.items))
+  by_layer (Act-F.Loop control body) = rolled (map-Act F ((a : Act F) × IsLaterAct (of_act a)) ((s : Stmt F) × Q s) (Act F) (Stmt F) (λ e. e.0) (λ e. e.0) (Act-F.Loop control body)) _ (fold-roll-Act F OfAct OfStatement (act_step number_of limit world) (statement_step number_of limit) (map-Act F ((a : Act F) × IsLaterAct (of_act a)) ((s : Stmt F) × Q s) (Act F) (Stmt F) (λ e. e.0) (λ e. e.0) (Act-F.Loop control body))) (later_loop (control_tree control) _ (body_after body.items))
 
   -- a statement does, if its act does
   by_statement : (y : Stmt-F F ((a : Act F) × IsLaterAct (of_act a)) ((s : Stmt F) × Q s)) → Q (roll-Stmt F (map-Stmt F ((a : Act F) × IsLaterAct (of_act a)) ((s : Stmt F) × Q s) (Act F) (Stmt F) (λ e. e.0) (λ e. e.0) y))

@@ -66,10 +66,10 @@ module _ {F : Type 0} (v : F → Number) (limit : ℕ) (world : World F) (accept
 
   -- a name that is declared then is a variable exactly where it is one now
   kinds : (before : List (Stmt F)) (statement : Stmt F) → FollowsIn program before statement → (n : ℕ) → has_no_declaration (known_before before).state n ≡ false → is_variable_content (symbol_at state n).content ≡ checked_names.is_variable (symbol_at (known_before before).state n).content
-  kinds before statement stands n declared =
+  kinds before statement occurs n declared =
       same-variables state (loaded v program) lasts.later.declares n
       ∙ same-word (symbol_at (loaded v program) n).content
-      ∙ variable-loaded v program before statement stands n declared
+      ∙ variable-loaded v program before statement occurs n declared
 
   abbrev IsFine : Definition F → Type 0
   IsFine d = IsLinearDefinition state d
@@ -80,15 +80,15 @@ module _ {F : Type 0} (v : F → Number) (limit : ℕ) (world : World F) (accept
 
   of-define : (before : List (Stmt F)) (at : Place) (equation : Named) (indices : List (Index F)) (condition : Option (Expr F)) (left_at : Place) (left : Expr F) (side : Side) (right_at : Place) (right : Expr F) →
       FollowsIn program before (record { at = at; act = Define equation indices condition left_at left side right_at right }) → All IsFine (defined_at at (Define equation indices condition left_at left side right_at right))
-  of-define before at equation indices condition left_at left side right_at right stands =
+  of-define before at equation indices condition left_at left side right_at right occurs =
       let statement : Stmt F = record { at = at; act = Define equation indices condition left_at left side right_at right } in
       let known = known_before before in
       let around = with_left [] indices in
-      let clean = statement-clean known statement (after-sound v program accepted.0 before [] statement stands.0 (sym (ap (errors_after v program accepted.0 []) stands.1) ∙ accepted.1)) in
+      let clean = statement-clean known statement (after-sound v program accepted.0 before [] statement occurs.0 (sym (ap (errors_after v program accepted.0 []) occurs.1) ∙ accepted.1)) in
       let whole = subst (AreClean known) (uses-act statement known.state [] ∙ uses-Define known.state at [] equation indices condition left_at left side right_at right) clean in
       let sides = clean-right known (left_uses at around indices condition) (uses as_side left_at around (tree_of left) ++ uses as_side right_at around (tree_of right)) whole.1 in
-      let one = tree-linear known state (kinds before statement stands) (tree_of left) as_side left_at around refl (tree-marked left) (clean-left known (uses as_side left_at around (tree_of left)) (uses as_side right_at around (tree_of right)) sides) in
-      let other = tree-linear known state (kinds before statement stands) (tree_of right) as_side right_at around refl (tree-marked right) (clean-right known (uses as_side left_at around (tree_of left)) (uses as_side right_at around (tree_of right)) sides) in
+      let one = tree-linear known state (kinds before statement occurs) (tree_of left) as_side left_at around refl (tree-marked left) (clean-left known (uses as_side left_at around (tree_of left)) (uses as_side right_at around (tree_of right)) sides) in
+      let other = tree-linear known state (kinds before statement occurs) (tree_of right) as_side right_at around refl (tree-marked right) (clean-right known (uses as_side left_at around (tree_of left)) (uses as_side right_at around (tree_of right)) sides) in
       if-no-lag _ _ (one, other)
 
   -- those of a model

@@ -60,11 +60,11 @@ label-gaining : (old new : State) → AreGaining old new → (set : Option ℕ) 
 label-gaining old new gain None label e = refl
 label-gaining old new gain (Some set) label e = gain set (label ∷ []) e
 
-stand-gaining : (old new : State) → AreGaining old new → (domain : List (Option ℕ)) (t : List ℕ) → FitPositions old domain t → FitPositions new domain t
-stand-gaining old new gain [] t stand = tt
-stand-gaining old new gain (set ∷ domain) [] stand = tt
-stand-gaining old new gain (set ∷ domain) (label ∷ t) stand =
-    (label-gaining old new gain set label stand.0, stand-gaining old new gain domain t stand.1)
+occur-gaining : (old new : State) → AreGaining old new → (domain : List (Option ℕ)) (t : List ℕ) → FitPositions old domain t → FitPositions new domain t
+occur-gaining old new gain [] t occur = tt
+occur-gaining old new gain (set ∷ domain) [] occur = tt
+occur-gaining old new gain (set ∷ domain) (label ∷ t) occur =
+    (label-gaining old new gain set label occur.0, occur-gaining old new gain domain t occur.1)
 
 -- A symbol later: it has lost no member, and was not declared or stands for the same.
 pub record Gains (old new : Symbol) : Type 0 where
@@ -128,7 +128,7 @@ module _ (state : State) (name : ℕ) (new : Symbol) (gains : Gains (symbol_at s
 
   context-put : IsValidEvent state new → AreValidEvents state → AreValidEvents (put_at state name new)
   context-put own all n t there =
-      stand-gaining state (put_at state name new) gaining-put (symbol_at (put_at state name new) n).domain t (by (put-at state name new n))
+      occur-gaining state (put_at state name new) gaining-put (symbol_at (put_at state name new) n).domain t (by (put-at state name new n))
     where
       by : ((symbol_at (put_at state name new) n ≡ symbol_at state n) ⊎ ((n ≡ name) × (symbol_at (put_at state name new) n ≡ new))) → FitPositions state (symbol_at (put_at state name new) n).domain t
       by (inl same) = subst (IsValidEvent state) (sym same) (all n) t there
@@ -144,15 +144,15 @@ nothing-there X t there =
 -- with data is added.
 record IsQuiet (old new : Content) : Type 0 where
   members : (u : List ℕ) → has (members_in old) u ≡ true → has (members_in new) u ≡ true
-  behind_same : (n : ℕ) → alias_target n new ≡ alias_target n old
+  after_same : (n : ℕ) → alias_target n new ≡ alias_target n old
   declared : is_undeclared new ≡ is_undeclared old
   given : (t : List ℕ) → has (given_in new) t ≡ true → has (given_in old) t ≡ true
 
 quiet-itself : (c : Content) → IsQuiet c c
-quiet-itself c = record { members = λ u there. there; behind_same = λ n. refl; declared = refl; given = λ t there. there }
+quiet-itself c = record { members = λ u there. there; after_same = λ n. refl; declared = refl; given = λ t there. there }
 
 quiet-typed : (entries : Entries Attributes) (t : VariableType) → IsQuiet (variable_of type.Free entries) (variable_of t finite.empty)
-quiet-typed entries t = record { members = λ u there. there; behind_same = λ n. refl; declared = refl; given = λ t there. absurd (nothing-there Attributes t there) }
+quiet-typed entries t = record { members = λ u there. there; after_same = λ n. refl; declared = refl; given = λ t there. absurd (nothing-there Attributes t there) }
 
 quiet-free : (entries : Entries Attributes) (k : DeclKind) → IsQuiet (variable_of type.Free entries) (retyped (variable_of type.Free entries) (content_of k))
 quiet-free entries kind.Set = quiet-itself (variable_of type.Free entries)
@@ -195,14 +195,14 @@ gains-again k domain s = by (is_undeclared s.content) refl
     by : (b : Bool) → is_undeclared s.content ≡ b → Gains s (cond b (symbol_of_kind k domain) (with_content s (retyped s.content (content_of k))))
     by true none = gains-fresh s (symbol_of_kind k domain) none
     by false there =
-        let quiet = quiet-retyped s.content k in record { members = quiet.members; declared = λ e. quiet.declared ∙ e; alike = inr quiet.behind_same }
+        let quiet = quiet-retyped s.content k in record { members = quiet.members; declared = λ e. quiet.declared ∙ e; alike = inr quiet.after_same }
 
 own-again : (k : DeclKind) (domain : List (Option ℕ)) (state : State) (s : Symbol) → IsValidEvent state s → IsValidEvent state (declared_again k domain s)
-own-again k domain state s stand = by (is_undeclared s.content)
+own-again k domain state s occur = by (is_undeclared s.content)
   where
     by : (b : Bool) → IsValidEvent state (cond b (symbol_of_kind k domain) (with_content s (retyped s.content (content_of k))))
     by true = λ t there. absurd (none-given k t there)
-    by false = λ t there. stand t ((quiet-retyped s.content k).given t there)
+    by false = λ t there. occur t ((quiet-retyped s.content k).given t there)
 
 context-declare : (k : DeclKind) (domain : List (Option ℕ)) (state : State) (name : ℕ) → AreValidEvents state → AreValidEvents (declare k domain state name)
 context-declare k domain state name all =
@@ -241,20 +241,20 @@ is_deaf content = true
 -- of tuples with data only this one is added.
 pub record IsWithDatum (t : List ℕ) (old new : Content) : Type 0 where
   members : (u : List ℕ) → has (members_in old) u ≡ true → has (members_in new) u ≡ true
-  behind_same : (n : ℕ) → alias_target n new ≡ alias_target n old
+  after_same : (n : ℕ) → alias_target n new ≡ alias_target n old
   declared : is_undeclared new ≡ is_undeclared old
   deaf : is_deaf new ≡ is_deaf old
   given : (u : List ℕ) → has (given_in new) u ≡ true → ((t ≡ u) × (is_deaf old ≡ false)) ⊎ (has (given_in old) u ≡ true)
 
 datum-none : (t : List ℕ) (c : Content) → IsWithDatum t c c
-datum-none t c = record { members = λ u there. there; behind_same = λ n. refl; declared = refl; deaf = refl; given = λ u there. inr there }
+datum-none t c = record { members = λ u there. there; after_same = λ n. refl; declared = refl; deaf = refl; given = λ u there. inr there }
 
 pub datum-member : (t : List ℕ) (c : Content) → IsWithDatum t c (with_membership c t true)
 datum-member t undeclared = datum-none t undeclared
 datum-member t (alias_of base) = datum-none t (alias_of base)
 datum-member t (set_of members) = record {
   members = λ u there. has-inserted members t u ∙ or-second (same_tuple t u) (has members u) there;
-  behind_same = λ n. refl;
+  after_same = λ n. refl;
   declared = refl;
   deaf = refl;
   given = λ u there. by u (same_tuple t u) refl (sym (has-inserted members t u) ∙ there);
@@ -285,7 +285,7 @@ datum-value t x (alias_of base) = datum-none t (alias_of base)
 datum-value t x (set_of members) = datum-none t (set_of members)
 datum-value t x (parameter_of entries) = record {
   members = λ u there. there;
-  behind_same = λ n. refl;
+  after_same = λ n. refl;
   declared = refl;
   deaf = refl;
   given = λ u there. by u (same_tuple t u) refl there;
@@ -327,20 +327,20 @@ module _ (state : State) (name : ℕ) (t : List ℕ) (new : Content) (datum : Is
       by false = q
 
   pub gains-new : Gains old_symbol new_symbol
-  gains-new = either-new (Gains old_symbol) (record { members = datum.members; declared = λ e. datum.declared ∙ e; alike = inr datum.behind_same }) (gains-itself old_symbol)
+  gains-new = either-new (Gains old_symbol) (record { members = datum.members; declared = λ e. datum.declared ∙ e; alike = inr datum.after_same }) (gains-itself old_symbol)
 
   similar-new : AreSimilar new_symbol old_symbol
   similar-new = either-new (λ (s : Symbol). AreSimilar s old_symbol) (refl, datum.deaf) (refl, refl)
 
   following-new : (n : ℕ) → alias_target n new_symbol.content ≡ alias_target n old_symbol.content
-  following-new n = either-new (λ (s : Symbol). alias_target n s.content ≡ alias_target n old_symbol.content) (datum.behind_same n) refl
+  following-new n = either-new (λ (s : Symbol). alias_target n s.content ≡ alias_target n old_symbol.content) (datum.after_same n) refl
 
   own-new : IsReady state name t → IsValidEvent state old_symbol → IsValidEvent state new_symbol
   own-new ready own = either-new (IsValidEvent state) (λ u there. by u ready (datum.given u there)) own
     where
       by : (u : List ℕ) → IsReady state name t → ((t ≡ u) × (is_deaf old_symbol.content ≡ false)) ⊎ (has (given_in old_symbol.content) u ≡ true) → FitPositions state old_symbol.domain u
       by u (inl deaf) (inl this) = absurd (both_ways (is_deaf old_symbol.content) this.1 deaf)
-      by u (inr stand) (inl this) = subst (FitPositions state old_symbol.domain) this.0 stand
+      by u (inr occur) (inl this) = subst (FitPositions state old_symbol.domain) this.0 occur
       by u ready (inr there) = own u there
 
   context-datum : IsReady state name t → AreValidEvents state → AreValidEvents next
@@ -363,8 +363,8 @@ module _ (state : State) (name : ℕ) (t : List ℕ) (new : Content) (datum : Is
 
   ready-next : (u : List ℕ) → IsReady state name u → IsReady next name u
   ready-next u (inl deaf) = inl (similar-next.1 ∙ deaf)
-  ready-next u (inr stand) =
-      inr (subst (λ (domain : List (Option ℕ)). FitPositions next domain u) (sym similar-next.0) (stand-gaining state next (gaining-put state (base_of state name) new_symbol gains-new) old_symbol.domain u stand))
+  ready-next u (inr occur) =
+      inr (subst (λ (domain : List (Option ℕ)). FitPositions next domain u) (sym similar-next.0) (occur-gaining state next (gaining-put state (base_of state name) new_symbol gains-new) old_symbol.domain u occur))
 
 module _ {F : Type 0} where
   -- each tuple of data is ready
@@ -393,37 +393,37 @@ module _ {F : Type 0} (v : F → Number) where
 -- ---- data that items give
 
 module _ (state : State) (set : Option ℕ) (domain : List (Option ℕ)) where
-  stand-with : (label : ℕ) (ts : List (List ℕ)) → is_outside state set label ≡ false → AllByRecursion (FitPositions state domain) ts → AllByRecursion (FitPositions state (set ∷ domain)) (map (λ tuple. label ∷ tuple) ts)
-  stand-with label [] inside all = tt
-  stand-with label (t ∷ ts) inside all = ((stands set inside, all.0), stand-with label ts inside all.1)
+  occur-with : (label : ℕ) (ts : List (List ℕ)) → is_outside state set label ≡ false → AllByRecursion (FitPositions state domain) ts → AllByRecursion (FitPositions state (set ∷ domain)) (map (λ tuple. label ∷ tuple) ts)
+  occur-with label [] inside all = tt
+  occur-with label (t ∷ ts) inside all = ((occurs set inside, all.0), occur-with label ts inside all.1)
     where
-      stands : (set : Option ℕ) → is_outside state set label ≡ false → fits_position state set label ≡ true
-      stands None e = refl
-      stands (Some set) e = not-false (has (members_of state set) (label ∷ [])) e
+      occurs : (set : Option ℕ) → is_outside state set label ≡ false → fits_position state set label ≡ true
+      occurs None e = refl
+      occurs (Some set) e = not-false (has (members_of state set) (label ∷ [])) e
         where
           not-false : (b : Bool) → not b ≡ false → b ≡ true
           not-false true e = refl
           not-false false e = absurd (cc)
 
-  stand-joined : (ts us : List (List ℕ)) → AllByRecursion (FitPositions state (set ∷ domain)) ts → AllByRecursion (FitPositions state (set ∷ domain)) us → AllByRecursion (FitPositions state (set ∷ domain)) (ts ++ us)
-  stand-joined [] us a b = b
-  stand-joined (t ∷ ts) us a b = (a.0, stand-joined ts us a.1 b)
+  occur-joined : (ts us : List (List ℕ)) → AllByRecursion (FitPositions state (set ∷ domain)) ts → AllByRecursion (FitPositions state (set ∷ domain)) us → AllByRecursion (FitPositions state (set ∷ domain)) (ts ++ us)
+  occur-joined [] us a b = b
+  occur-joined (t ∷ ts) us a b = (a.0, occur-joined ts us a.1 b)
 
-  stand-pieces : (ts : List (List ℕ)) (labels : List ℕ) → list_any (is_outside state set) labels ≡ false → AllByRecursion (FitPositions state domain) ts → AllByRecursion (FitPositions state (set ∷ domain)) (flat_map (λ label. map (λ tuple. label ∷ tuple) ts) labels)
-  stand-pieces ts [] inside all = tt
-  stand-pieces ts (label ∷ labels) inside all =
-      stand-joined (map (λ tuple. label ∷ tuple) ts) (flat_map (λ label. map (λ tuple. label ∷ tuple) ts) labels) (stand-with label ts (neither-first (is_outside state set label) (list_any (is_outside state set) labels) inside) all) (stand-pieces ts labels (neither-second (is_outside state set label) (list_any (is_outside state set) labels) inside) all)
+  occur-pieces : (ts : List (List ℕ)) (labels : List ℕ) → list_any (is_outside state set) labels ≡ false → AllByRecursion (FitPositions state domain) ts → AllByRecursion (FitPositions state (set ∷ domain)) (flat_map (λ label. map (λ tuple. label ∷ tuple) ts) labels)
+  occur-pieces ts [] inside all = tt
+  occur-pieces ts (label ∷ labels) inside all =
+      occur-joined (map (λ tuple. label ∷ tuple) ts) (flat_map (λ label. map (λ tuple. label ∷ tuple) ts) labels) (occur-with label ts (neither-first (is_outside state set label) (list_any (is_outside state set) labels) inside) all) (occur-pieces ts labels (neither-second (is_outside state set label) (list_any (is_outside state set) labels) inside) all)
 
 -- tuples of no position
-stand-anywhere : (state : State) (ts : List (List ℕ)) → AllByRecursion (FitPositions state []) ts
-stand-anywhere state [] = tt
-stand-anywhere state (t ∷ ts) = (tt, stand-anywhere state ts)
+occur-anywhere : (state : State) (ts : List (List ℕ)) → AllByRecursion (FitPositions state []) ts
+occur-anywhere state [] = tt
+occur-anywhere state (t ∷ ts) = (tt, occur-anywhere state ts)
 
-stand-product : (state : State) (domain : List (Option ℕ)) (parts : List (List ℕ)) → has_outside state domain parts ≡ false → AllByRecursion (FitPositions state domain) (tuple_product parts)
-stand-product state [] parts inside = stand-anywhere state (tuple_product parts)
-stand-product state (set ∷ domain) [] inside = (tt, tt)
-stand-product state (set ∷ domain) (labels ∷ rest) inside =
-    stand-pieces state set domain (tuple_product rest) labels (neither-first (list_any (is_outside state set) labels) (has_outside state domain rest) inside) (stand-product state domain rest (neither-second (list_any (is_outside state set) labels) (has_outside state domain rest) inside))
+occur-product : (state : State) (domain : List (Option ℕ)) (parts : List (List ℕ)) → has_outside state domain parts ≡ false → AllByRecursion (FitPositions state domain) (tuple_product parts)
+occur-product state [] parts inside = occur-anywhere state (tuple_product parts)
+occur-product state (set ∷ domain) [] inside = (tt, tt)
+occur-product state (set ∷ domain) (labels ∷ rest) inside =
+    occur-pieces state set domain (tuple_product rest) labels (neither-first (list_any (is_outside state set) labels) (has_outside state domain rest) inside) (occur-product state domain rest (neither-second (list_any (is_outside state set) labels) (has_outside state domain rest) inside))
 
 module _ {F : Type 0} (state : State) (domain : List (Option ℕ)) where
   -- each tuple of data fits these positions
@@ -462,7 +462,7 @@ module _ {F : Type 0} (state : State) (domain : List (Option ℕ)) where
 
       by : (AreThere more → with_items state domain more items ≡ Ok given → AreThere given) → (o : Option SetError) → error_of state domain (tuples_of ds) item ≡ o → unless o item.at (with_items state domain more items) ≡ Ok given → AreThere given
       by later None none rest =
-          later (there-joined ds item.value (tuple_product item.parts) all (stand-product state domain item.parts (none-outside (tuples_of ds) item none))) rest
+          later (there-joined ds item.value (tuple_product item.parts) all (occur-product state domain item.parts (none-outside (tuples_of ds) item none))) rest
       by later (Some error) is rest = absurd cc
 
 -- ---- a name that is declared, with its data
@@ -526,9 +526,9 @@ module _ (k : DeclKind) (domain : List (Option ℕ)) (state : State) (name : ℕ
 
   -- a new name is over the domain in which the data stand
   ready-new : is_undeclared (symbol_at state name).content ≡ true → (t : List ℕ) → FitPositions state (positions_of k domain) t → IsReady named name t
-  ready-new none t stand = elim (put-at state name (declared_again k domain (symbol_at state name)) name) [
+  ready-new none t occur = elim (put-at state name (declared_again k domain (symbol_at state name)) name) [
     | inl same ↦ inl (ap (λ (s : Symbol). is_deaf s.content) (own-symbol (symbol_at state name) same (own-name (symbol_at state name).content name none)) ∙ deaf-undeclared (symbol_at state name).content none)
-    | inr changed ↦ inr (subst (λ (s : Symbol). FitPositions named s.domain t) (sym (own-symbol (symbol_of_kind k domain) (changed.1 ∙ ap (λ (b : Bool). cond b (symbol_of_kind k domain) (with_content (symbol_at state name) (retyped (symbol_at state name).content (content_of k)))) none) (own-kind k name))) (stand-gaining state named (gaining-put state name (declared_again k domain (symbol_at state name)) (gains-again k domain (symbol_at state name))) (positions_of k domain) t stand))
+    | inr changed ↦ inr (subst (λ (s : Symbol). FitPositions named s.domain t) (sym (own-symbol (symbol_of_kind k domain) (changed.1 ∙ ap (λ (b : Bool). cond b (symbol_of_kind k domain) (with_content (symbol_at state name) (retyped (symbol_at state name).content (content_of k)))) none) (own-kind k name))) (occur-gaining state named (gaining-put state name (declared_again k domain (symbol_at state name)) (gains-again k domain (symbol_at state name))) (positions_of k domain) t occur))
   ]
 
   -- data change nothing of a variable that gets a type
@@ -597,8 +597,8 @@ all-from_has P (u ∷ tuples) each =
     or-second false b e = e
 
 -- each label of a tuple with data fits its position
-pub loaded-stands : {F : Type 0} (v : F → Number) (program : Program F) (name : ℕ) → IsAccepted v program → All (FitPositions (loaded v program) (symbol_at (loaded v program) name).domain) (given_in (symbol_at (loaded v program) name).content)
-loaded-stands v program name accepted =
+pub loaded-occurs : {F : Type 0} (v : F → Number) (program : Program F) (name : ℕ) → IsAccepted v program → All (FitPositions (loaded v program) (symbol_at (loaded v program) name).domain) (given_in (symbol_at (loaded v program) name).content)
+loaded-occurs v program name accepted =
     let blank = blank_state (length program.names) in
     let empty : AreValidEvents blank = λ n. subst (IsValidEvent blank) (sym (none-declared (length program.names) n)) (λ t there. absurd (has-none [] t refl there)) in
     let state = loaded v program in

@@ -48,13 +48,13 @@ simple-set old new stays set over =
 
 -- the members of a set that is an index set before a statement, in each state of a run
 pub index-members : {F : Type 0} (v : F → Number) (limit : ℕ) (world : World F) (before : List (Stmt F)) (statement : Stmt F) (set : ℕ) (state : State) → FollowsIn world.program before statement → is_index_set (state_after v (length world.program.names) (sound before)) set ≡ true → IsLasting v world.program state → IsOrdered (members_of state set) × AreSingles (members_of state set)
-index-members v limit world before statement set state stands one lasts =
-    over-one (loaded v world.program) state lasts.stays set (index-set-loaded v world.program before statement stands set one)
+index-members v limit world before statement set state occurs one lasts =
+    over-one (loaded v world.program) state lasts.stays set (index-set-loaded v world.program before statement occurs set one)
 
 -- a set that is an index set before a statement is one in each state of a run
 pub index-simple : {F : Type 0} (v : F → Number) (limit : ℕ) (world : World F) (before : List (Stmt F)) (statement : Stmt F) (set : ℕ) (state : State) → FollowsIn world.program before statement → is_index_set (state_after v (length world.program.names) (sound before)) set ≡ true → IsLasting v world.program state → IsSimple state set
-index-simple v limit world before statement set state stands one lasts =
-    simple-set (loaded v world.program) state lasts.stays set (index-set-loaded v world.program before statement stands set one)
+index-simple v limit world before statement set state occurs one lasts =
+    simple-set (loaded v world.program) state lasts.stays set (index-set-loaded v world.program before statement occurs set one)
 
 module _ {F : Type 0} where
   fixed-amount : (amount : tree.Tree F) → is_fixed_amount amount ≡ true → is_constant_lag amount ≡ true
@@ -74,6 +74,6 @@ module _ {F : Type 0} where
       let program = world.program in
       let stays = lasts.stays in
       let known = known_after v program accepted.0 (sound of_program.before) in
-      let left = program-left v program accepted.0 of_program.before of_program.outer statement of_program.depth target condition right_at right accepted.1 of_program.stands of_program.inside is in
-      let simple = λ (set : ℕ) (one : is_index_set known.state set ≡ true). simple-set (loaded v program) state stays set (index-set-loaded v program of_program.before of_program.outer of_program.stands set one) in
+      let left = program-left v program accepted.0 of_program.before of_program.outer statement of_program.depth target condition right_at right accepted.1 of_program.occurs of_program.inside is in
+      let simple = λ (set : ℕ) (one : is_index_set known.state set ≡ true). simple-set (loaded v program) state stays set (index-set-loaded v program of_program.before of_program.outer of_program.occurs set one) in
       given-once v limit state binding (target_of target) right_at (tree_of right) (left-simple known.state state simple (index_list target.indices) left) statement.at (option_map tree_of condition) given e

@@ -21,7 +21,7 @@ use Rattle.gms_check.specs.CompileErrors.{errors_after, known_after}
 use Rattle.gms_check.specs.Loaded.{IsAccepted, loaded, sound}
 use Rattle.gms_check.specs.Past.{Known}
 use Rattle.gms_check.specs.Contexts.{as_side}
-use Rattle.gms_check.specs.StatementUses.{UsesOfAct, UsesOfStatement, act_uses_step, statement_uses_step, statement_uses, index_list, left_uses, right_standing, with_left}
+use Rattle.gms_check.specs.StatementUses.{UsesOfAct, UsesOfStatement, act_uses_step, statement_uses_step, statement_uses, index_list, left_uses, right_context, with_left}
 use Rattle.gms_check.specs.InnerStatements.{act_uses}
 use Rattle.gms_check.specs.Uses.{index_sets, sets_of_control, uses, control_uses, shift_uses, condition_uses}
 use Rattle.gms_check.proofs.ActUses.{uses-act, uses-Define}
@@ -81,16 +81,16 @@ module _ {F : Type 0} (v : F → Number) (world : World F) (accepted : IsAccepte
   known_before before = known_after v program accepted.0 (sound before)
 
   clean-there : (before : List (Stmt F)) (statement : Stmt F) → FollowsIn program before statement → AreClean (known_before before) (statement_uses statement (known_before before).state [])
-  clean-there before statement stands =
-      statement-clean (known_before before) statement (after-sound v program accepted.0 before [] statement stands.0 (sym (ap (errors_after v program accepted.0 []) stands.1) ∙ accepted.1))
+  clean-there before statement occurs =
+      statement-clean (known_before before) statement (after-sound v program accepted.0 before [] statement occurs.0 (sym (ap (errors_after v program accepted.0 []) occurs.1) ∙ accepted.1))
 
-  module _ (before : List (Stmt F)) (statement : Stmt F) (stands : FollowsIn program before statement) where
+  module _ (before : List (Stmt F)) (statement : Stmt F) (occurs : FollowsIn program before statement) where
     abbrev known : Known F
     known = known_before before
 
     -- what is declared before the statement is declared at last
     later : (ns : List ℕ) → Each (declares known.state) ns → Each test ns
-    later = each-weaker (declares known.state) test (declared-later v program before statement stands)
+    later = each-weaker (declares known.state) test (declared-later v program before statement occurs)
 
     named-define : (at : Place) (around : List ℕ) (equation : Named) (indices : List (Index F)) (condition : Option (Expr F)) (left_at : Place) (left : Expr F) (side : Side) (right_at : Place) (right : Expr F) →
         AreClean known (act_uses (Define equation indices condition left_at left side right_at right) known.state at around) → Each test (equation.name ∷ (index_names (index_list indices) ++ (condition_names (option_map tree_of condition) ++ (names_in_tree (tree_of left) ++ names_in_tree (tree_of right)))))
@@ -125,19 +125,19 @@ module _ {F : Type 0} (v : F → Number) (world : World F) (accepted : IsAccepte
       P a = FollowsIn program before (record { at = at; act = a }) → All_named test (defined_at at a)
 
       by : (layer : Act-F F (Act F) (Stmt F)) → P (roll-Act F layer)
-      by (Act-F.Declare kind items) = subst P (sym (rolls-Declare kind items)) (λ stands. tt)
-      by (Act-F.Alias one other) = subst P (sym (rolls-Alias one other)) (λ stands. tt)
-      by (Act-F.Assign target condition right_at right) = subst P (sym (rolls-Assign target condition right_at right)) (λ stands. tt)
+      by (Act-F.Declare kind items) = subst P (sym (rolls-Declare kind items)) (λ occurs. tt)
+      by (Act-F.Alias one other) = subst P (sym (rolls-Alias one other)) (λ occurs. tt)
+      by (Act-F.Assign target condition right_at right) = subst P (sym (rolls-Assign target condition right_at right)) (λ occurs. tt)
       by (Act-F.Define equation indices condition left_at left side right_at right) =
-          subst P (sym (rolls-Define equation indices condition left_at left side right_at right)) (λ stands.
+          subst P (sym (rolls-Define equation indices condition left_at left side right_at right)) (λ occurs.
           let statement : Stmt F = record { at = at; act = Define equation indices condition left_at left side right_at right } in
-          if-no-lag _ _ (named-define before statement stands at [] equation indices condition left_at left side right_at right (subst (AreClean (known_before before)) (uses-act statement (known_before before).state []) (clean-there before statement stands))))
-      by (Act-F.Model models) = subst P (sym (rolls-Model models)) (λ stands. tt)
-      by (Act-F.Solve model method objective maximize) = subst P (sym (rolls-Solve model method objective maximize)) (λ stands. tt)
-      by (Act-F.Display items) = subst P (sym (rolls-Display items)) (λ stands. tt)
-      by (Act-F.Loop control body) = subst P (sym (rolls-Loop control body)) (λ stands. tt)
-      by (Act-F.Options settings) = subst P (sym (rolls-Options settings)) (λ stands. tt)
-      by (Act-F.Abort condition items) = subst P (sym (rolls-Abort condition items)) (λ stands. tt)
+          if-no-lag _ _ (named-define before statement occurs at [] equation indices condition left_at left side right_at right (subst (AreClean (known_before before)) (uses-act statement (known_before before).state []) (clean-there before statement occurs))))
+      by (Act-F.Model models) = subst P (sym (rolls-Model models)) (λ occurs. tt)
+      by (Act-F.Solve model method objective maximize) = subst P (sym (rolls-Solve model method objective maximize)) (λ occurs. tt)
+      by (Act-F.Display items) = subst P (sym (rolls-Display items)) (λ occurs. tt)
+      by (Act-F.Loop control body) = subst P (sym (rolls-Loop control body)) (λ occurs. tt)
+      by (Act-F.Options settings) = subst P (sym (rolls-Options settings)) (λ occurs. tt)
+      by (Act-F.Abort condition items) = subst P (sym (rolls-Abort condition items)) (λ occurs. tt)
 
   definitions-from : (before statements : List (Stmt F)) → program.statements.items ≡ before ++ statements → All_named test (definitions statements)
   definitions-from before [] parts = tt
@@ -150,7 +150,7 @@ module _ {F : Type 0} (v : F → Number) (world : World F) (accepted : IsAccepte
 
   -- ---- its statements
 
-  module _ (before : List (Stmt F)) (outer : Stmt F) (stands : FollowsIn program before outer) where
+  module _ (before : List (Stmt F)) (outer : Stmt F) (occurs : FollowsIn program before outer) where
     abbrev uses_of : Act F → UsesOfAct F
     uses_of = fold-Act F (UsesOfAct F) (UsesOfStatement F) act_uses_step statement_uses_step
 
@@ -198,11 +198,11 @@ module _ {F : Type 0} (v : F → Number) (world : World F) (accepted : IsAccepte
         rolled x _ _ (uses-is x) (names-is x) (λ at loops clean.
         let around = with_left loops target.indices in
         let known = KnownThen in
-        let context = right_standing known.state target.name in
+        let context = right_context known.state target.name in
         let all = none-unknown known (target.name ∷ index_sets (index_list target.indices)) (clean.0 UnknownName) in
         let lefts = clean-left known (left_uses at around target.indices condition) (uses context right_at around (tree_of right)) clean.1 in
         let test_then = declares known.state in
-        later before outer stands (target.name ∷ (index_names (index_list target.indices) ++ (condition_names (option_map tree_of condition) ++ names_in_tree (tree_of right)))) (
+        later before outer occurs (target.name ∷ (index_names (index_list target.indices) ++ (condition_names (option_map tree_of condition) ++ names_in_tree (tree_of right)))) (
           all.0,
           each-both test_then (index_names (index_list target.indices)) (condition_names (option_map tree_of condition) ++ names_in_tree (tree_of right))
               (left-clean known (index_list target.indices) around all.1 (clean-left known (shift_uses around (index_list target.indices)) (condition_uses at around (option_map tree_of condition)) lefts))
@@ -213,8 +213,8 @@ module _ {F : Type 0} (v : F → Number) (world : World F) (accepted : IsAccepte
     by_layer (Act-F.Solve model word objective maximize) =
         let x = Act-F.Solve model word objective maximize in
         rolled x _ _ (uses-is x) (names-is x) (λ at around clean.
-        let one = later before outer stands (model.name ∷ []) (none-unknown KnownThen (model.name ∷ []) (clean.0 UnknownName)) in
-        let other = later before outer stands (objective.name ∷ []) (none-unknown KnownThen (objective.name ∷ []) (clean.1.1.0 UnknownName)) in
+        let one = later before outer occurs (model.name ∷ []) (none-unknown KnownThen (model.name ∷ []) (clean.0 UnknownName)) in
+        let other = later before outer occurs (objective.name ∷ []) (none-unknown KnownThen (objective.name ∷ []) (clean.1.1.0 UnknownName)) in
         (one.0, (other.0, of-model model.name)))
     by_layer (Act-F.Loop control body) =
         let x = map-Act F ((a : Act F) × QAct a) ((s : Stmt F) × Q s) (Act F) (Stmt F) (λ e. e.0) (λ e. e.0) (Act-F.Loop control body) in
@@ -222,7 +222,7 @@ module _ {F : Type 0} (v : F → Number) (world : World F) (accepted : IsAccepte
         rolled x _ _ (uses-is x) (names-is x) (λ at around clean.
         let inner = flat_map (λ (statement : UsesOfStatement F). statement KnownThen.state (around ++ sets_of_control c)) (map statement_uses (map (λ e. e.0) body.items)) in
         each-both test (control_names c) (flat_map (λ (names : List ℕ). names) (map (statement_names world) (map (λ e. e.0) body.items)))
-        (later before outer stands (control_names c) (control-clean KnownThen c at around (clean-left KnownThen (control_uses at around c) inner clean)))
+        (later before outer occurs (control_names c) (control-clean KnownThen c at around (clean-left KnownThen (control_uses at around c) inner clean)))
         (body-named (around ++ sets_of_control c) body.items (clean-right KnownThen (control_uses at around c) inner clean)))
 
     by_statement : (y : Stmt-F F ((a : Act F) × QAct a) ((s : Stmt F) × Q s)) → Q (roll-Stmt F (map-Stmt F ((a : Act F) × QAct a) ((s : Stmt F) × Q s) (Act F) (Stmt F) (λ e. e.0) (λ e. e.0) y))

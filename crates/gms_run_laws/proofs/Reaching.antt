@@ -18,8 +18,8 @@ module _ {F : Type 0} (v : F → Number) (limit : ℕ) (world : World F) (first 
   each-reaches : (before statements : List (Stmt F)) → world.program.statements.items ≡ before ++ statements → EachKeeps (IsReached v limit world first) (map (of_statement v limit world) statements)
   each-reaches before [] is = tt
   each-reaches before (s ∷ statements) is =
-      let stands : IsStatementOf world.program s = record { before = before; outer = s; stands = (statements, is); depth = 0; inside = refl } in
-      ((λ binding c reached. after s binding c stands refl reached), each-reaches (before ++ s ∷ []) statements (is ∙ sym (append_assoc before (s ∷ []) statements)))
+      let occurs : IsStatementOf world.program s = record { before = before; outer = s; occurs = (statements, is); depth = 0; inside = refl } in
+      ((λ binding c reached. after s binding c occurs refl reached), each-reaches (before ++ s ∷ []) statements (is ∙ sym (append_assoc before (s ∷ []) statements)))
 
   -- the last state of a run of the last statements of the program is reached
   pub last-reaches : (before statements : List (Stmt F)) → world.program.statements.items ≡ before ++ statements → (answers : List (Answer Number)) → IsReached v limit world first (run_from v limit world first answers statements).state

@@ -249,20 +249,20 @@ module _ {F : Type 0} (v : F → Number) (limit : ℕ) (world : World F) (accept
 
   of-define : (before : List (Stmt F)) (at : Place) (equation : Named) (indices : List (Index F)) (condition : Option (Expr F)) (left_at : Place) (left : Expr F) (side : Side) (right_at : Place) (right : Expr F) →
       FollowsIn program before (record { at = at; act = Define equation indices condition left_at left side right_at right }) → All IsFine (defined_at at (Define equation indices condition left_at left side right_at right))
-  of-define before at equation indices condition left_at left side right_at right stands =
+  of-define before at equation indices condition left_at left side right_at right occurs =
       let statement : Stmt F = record { at = at; act = Define equation indices condition left_at left side right_at right } in
       let known = known_before before in
       let around = with_left [] indices in
-      let clean = statement-clean known statement (after-sound v program accepted.0 before [] statement stands.0 (sym (ap (errors_after v program accepted.0 []) stands.1) ∙ accepted.1)) in
+      let clean = statement-clean known statement (after-sound v program accepted.0 before [] statement occurs.0 (sym (ap (errors_after v program accepted.0 []) occurs.1) ∙ accepted.1)) in
       let whole = subst (AreClean known) (uses-act statement known.state [] ∙ uses-Define known.state at [] equation indices condition left_at left side right_at right) clean in
       let sides = clean-right known (left_uses at around indices condition) (uses as_side left_at around (tree_of left) ++ uses as_side right_at around (tree_of right)) whole.1 in
       let one = clean-left known (uses as_side left_at around (tree_of left)) (uses as_side right_at around (tree_of right)) sides in
       let other = clean-right known (uses as_side left_at around (tree_of left)) (uses as_side right_at around (tree_of right)) sides in
       let sets = (sound-use known (defining equation.name (index_list indices)) whole.0).2.sets in
-      let members = λ (set : ℕ) (is : is_index_set known.state set ≡ true). index-members v limit world before statement set state stands is lasts in
+      let members = λ (set : ℕ) (is : is_index_set known.state set ≡ true). index-members v limit world before statement set state occurs is lasts in
       let d : Definition F = record { equation = equation.name; at = at; indices = index_list indices; condition = option_map tree_of condition; left_at = left_at; left = tree_of left; side = side; right_at = right_at; right = tree_of right } in
       if-no-lag (has_lag (index_list indices)) d (λ none. (
-        row-elements v limit known state (kind-now v limit world state lasts before statement stands) (domain-now v limit world state lasts before statement stands) d as_side as_side around whole.0 one other,
+        row-elements v limit known state (kind-now v limit world state lasts before statement occurs) (domain-now v limit world state lasts before statement occurs) d as_side as_side around whole.0 one other,
         (plain-indices known.state state members (index_list indices) none sets, ordered-indices known.state state members (index_list indices) sets),
       ))
 
@@ -283,17 +283,17 @@ module _ {F : Type 0} (v : F → Number) (limit : ℕ) (world : World F) (accept
   objective-element statement model word objective maximize of_program is =
       let before = of_program.before in
       let known = known_before before in
-      let inner = program-inner v program accepted.0 before of_program.outer statement of_program.depth accepted.1 of_program.stands of_program.inside in
+      let inner = program-inner v program accepted.0 before of_program.outer statement of_program.depth accepted.1 of_program.occurs of_program.inside in
       let whole = subst (AreClean known) (uses-act statement known.state inner.0 ∙ ap (λ (act : Act F). act_uses act known.state statement.at inner.0) is ∙ uses-Solve known.state statement.at inner.0 model word objective maximize) inner.1 in
       let clean : IsClean known (optimizing objective.name) = whole.1.1.0 in
       let declared = neither-first (has_no_declaration known.state objective.name) (list_any (has_no_declaration known.state) []) (clean UnknownName) in
-      let same = kind-now v limit world state lasts before of_program.outer of_program.stands objective.name declared in
+      let same = kind-now v limit world state lasts before of_program.outer of_program.occurs objective.name declared in
       let variable : is_variable_kind (declared_kind state objective.name) ≡ true = ap is_variable_kind same ∙ not-false (is_variable_kind (declared_kind known.state objective.name)) (clean WrongKind) in
       let free = not-false (is_free (symbol_at known.state objective.name).content && is_without_positions (positions known.state objective.name)) (clean Objective) in
       let none = second-holds (is_free (symbol_at known.state objective.name).content) (is_without_positions (positions known.state objective.name)) free in
       and_from (is_variable_kind (declared_kind state objective.name)) (0 == length (symbol_at state objective.name).domain) variable
       (eq-eqb 0 (length (symbol_at state objective.name).domain)
-      (no-positions (positions known.state objective.name) none ∙ same-positions state known.state objective.name (variable-elements (declared_kind state objective.name) variable) same (domain-now v limit world state lasts before of_program.outer of_program.stands objective.name declared)))
+      (no-positions (positions known.state objective.name) none ∙ same-positions state known.state objective.name (variable-elements (declared_kind state objective.name) variable) same (domain-now v limit world state lasts before of_program.outer of_program.occurs objective.name declared)))
 
   -- so the columns and the rows of its program are elements of the state
   pub solve-elements : (statement : Stmt F) (model : Named) (word : Word) (objective : Named) (maximize : Bool) (lp : Lp Number) → IsStatementOf program statement → statement.act ≡ Solve model word objective maximize → program_lp v limit state program.statements.items model.name objective.name maximize statement.at ≡ Ok lp → AreElements state (program_elements lp)

@@ -168,7 +168,7 @@ module _ {F : Type 0} (v : F → Number) (saved joint : World F) (others : List 
   abbrev prefix : List (Stmt F)
   prefix = saved.program.statements.items
 
-  module _ (before : List (Stmt F)) (outer : Stmt F) (tail : List (Stmt F)) (stands : prefix ≡ before ++ outer ∷ tail) where
+  module _ (before : List (Stmt F)) (outer : Stmt F) (tail : List (Stmt F)) (occurs : prefix ≡ before ++ outer ∷ tail) where
     abbrev known : Known F
     known = known_after v saved.program accepted.0 (sound before)
 
@@ -189,18 +189,18 @@ module _ {F : Type 0} (v : F → Number) (saved joint : World F) (others : List 
 
         declared : declares_model m prefix ≡ true
         declared =
-            ap (declares_model m) stands ∙ list_any-append (λ (s : Stmt F). has_model m (models_of s.act)) before (outer ∷ tail) ∙ or_left (declares_model m before) (declares_model m (outer ∷ tail)) declared_before
+            ap (declares_model m) occurs ∙ list_any-append (λ (s : Stmt F). has_model m (models_of s.act)) before (outer ∷ tail) ∙ or_left (declares_model m before) (declares_model m (outer ∷ tail)) declared_before
 
         below : nat_lt m (length saved.program.names) ≡ true
         below =
-            let many = (padded-then v saved.program accepted own before (outer ∷ tail) stands).size in
+            let many = (padded-then v saved.program accepted own before (outer ∷ tail) occurs).size in
             let b = within known.state m (model-there (symbol_at known.state m).content is_there) in
             test-of m (length saved.program.names) (subst (λ n. m < n) many b)
 
         oks : Each known.defined (equations_of prefix m)
         oks =
-            subst (λ (ss : List (Stmt F)). Each known.defined (equations_of ss m)) (sym stands)
-            (model-equations (length saved.program.names) (IsEquation known.state) known.defined m below [] before (outer ∷ tail) declared_before tt (all-equations v saved.program accepted own before outer tail stands [] before refl)
+            subst (λ (ss : List (Stmt F)). Each known.defined (equations_of ss m)) (sym occurs)
+            (model-equations (length saved.program.names) (IsEquation known.state) known.defined m below [] before (outer ∷ tail) declared_before tt (all-equations v saved.program accepted own before outer tail occurs [] before refl)
             (none-missing known.defined (facts.declared_equations known.models m) (second-fails (is_model (declared_kind known.state m)) (list_any (λ equation. not (known.defined equation)) (facts.declared_equations known.models m)) is_there (clean NotDefined))))
 
         further : (q : ℕ) → q < length saved.program.names → q < length joint.program.names
@@ -210,7 +210,7 @@ module _ {F : Type 0} (v : F → Number) (saved joint : World F) (others : List 
         following q is =
             let low = (and_parts (nat_lt q (length saved.program.names)) (is_defined (sound before) q) is).0 in
             let there = sym (defined-sound before q) ∙ second-of (nat_lt q (length saved.program.names)) (is_defined (sound before) q) is in
-            not-following v joint.program both firsts others statements q (test-of q (length joint.program.names) (further q (below-of q (length saved.program.names) low))) (defined_same q ∙ ap (λ (ss : List (Stmt F)). defined_in ss q) stands ∙ list_any-append (λ (s : Stmt F). defines q s.act) before (outer ∷ tail) ∙ or_left (defined_in before q) (defined_in (outer ∷ tail) q) there)
+            not-following v joint.program both firsts others statements q (test-of q (length joint.program.names) (further q (below-of q (length saved.program.names) low))) (defined_same q ∙ ap (λ (ss : List (Stmt F)). defined_in ss q) occurs ∙ list_any-append (λ (s : Stmt F). defines q s.act) before (outer ∷ tail) ∙ or_left (defined_in before q) (defined_in (outer ∷ tail) q) there)
 
     -- ---- statements
 
@@ -285,7 +285,7 @@ module _ {F : Type 0} (v : F → Number) (saved joint : World F) (others : List 
 
     outer-alike : Alike (models_solved outer)
     outer-alike =
-        statement-alike outer [] (statement-clean known outer (after-sound v saved.program accepted.0 before [] outer tail (sym (ap (errors_after v saved.program accepted.0 []) stands) ∙ accepted.1)))
+        statement-alike outer [] (statement-clean known outer (after-sound v saved.program accepted.0 before [] outer tail (sym (ap (errors_after v saved.program accepted.0 []) occurs) ∙ accepted.1)))
 
   alike-from : (before rest : List (Stmt F)) → prefix ≡ before ++ rest → DefineAlike prefix joint.program.statements.items (flat_map models_solved rest)
   alike-from before [] is = tt

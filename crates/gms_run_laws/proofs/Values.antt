@@ -29,10 +29,10 @@ module _ (test : ℕ → Bool) (one other : State) (agree : AgreeOn test one oth
   -- ---- what is read of a name
 
   pub members-same : (n : ℕ) → test n ≡ true → members_of other n ≡ members_of one n
-  members-same n is = ap (λ (s : Symbol). members_in s.content) (agree.stands n is)
+  members-same n is = ap (λ (s : Symbol). members_in s.content) (agree.occurs n is)
 
   pub attributes-same : (n : ℕ) → test n ≡ true → (t : List ℕ) → attributes_of other n t ≡ attributes_of one n t
-  attributes-same n is t = ap (λ (s : Symbol). attributes_in s.content t) (agree.stands n is)
+  attributes-same n is t = ap (λ (s : Symbol). attributes_in s.content t) (agree.occurs n is)
 
   labels-same : (sets : List ℕ) → Each test sets → map (labels_of other) sets ≡ map (labels_of one) sets
   labels-same [] all = refl
@@ -46,7 +46,7 @@ module _ (test : ℕ → Bool) (one other : State) (agree : AgreeOn test one oth
 
   module _ (n : ℕ) (is : test n ≡ true) where
     value-there : (t : List ℕ) → value_in (symbol_of other n).content t ≡ value_in (symbol_of one n).content t
-    value-there t = ap (λ (s : Symbol). value_in s.content t) (agree.stands n is)
+    value-there t = ap (λ (s : Symbol). value_in s.content t) (agree.occurs n is)
 
     plain-content : (content : Content) (t : List ℕ) → plain_value other n content t ≡ plain_value one n content t
     plain-content undeclared t = value-there t
@@ -59,7 +59,7 @@ module _ (test : ℕ → Bool) (one other : State) (agree : AgreeOn test one oth
 
     plain-same : (t : List ℕ) → plain_value other n (symbol_of other n).content t ≡ plain_value one n (symbol_of one n).content t
     plain-same t =
-        plain-content (symbol_of other n).content t ∙ ap (λ (s : Symbol). plain_value one n s.content t) (agree.stands n is)
+        plain-content (symbol_of other n).content t ∙ ap (λ (s : Symbol). plain_value one n s.content t) (agree.occurs n is)
 
     module _ (limit : ℕ) (binding : Pairs) (at : Place) where
       entry-at : (suffix : Suffix) (t : List ℕ) → read_entry limit other binding at n suffix t ≡ read_entry limit one binding at n suffix t
@@ -69,8 +69,8 @@ module _ (test : ℕ → Bool) (one other : State) (agree : AgreeOn test one oth
       entry-at suffix.L t = ap {B = Answer Extended} (λ (a : Attributes). Ok (number a.level)) (attributes-same n is t)
       entry-at suffix.M t = ap {B = Answer Extended} (λ (a : Attributes). Ok (number a.marginal)) (attributes-same n is t)
       entry-at suffix.Fx t = refl
-      entry-at suffix.ModelStat t = ap (λ (s : Symbol). count_value limit binding at (statuses_in s.content).0) (agree.stands n is)
-      entry-at suffix.SolveStat t = ap (λ (s : Symbol). count_value limit binding at (statuses_in s.content).1) (agree.stands n is)
+      entry-at suffix.ModelStat t = ap (λ (s : Symbol). count_value limit binding at (statuses_in s.content).0) (agree.occurs n is)
+      entry-at suffix.SolveStat t = ap (λ (s : Symbol). count_value limit binding at (statuses_in s.content).1) (agree.occurs n is)
 
       entry-same : (suffix : Suffix) (t : Option (List ℕ)) → entry_or_zero limit other binding at n suffix t ≡ entry_or_zero limit one binding at n suffix t
       entry-same suffix None = refl

@@ -15,7 +15,7 @@ use Rattle.gms_run_laws.specs.Names.{Each, models_solved, statement_names}
 -- for.
 pub record AgreeOn (test : ℕ → Bool) (one other : State) : Type 0 where
   pub own : (n : ℕ) → test n ≡ true → symbol_at other n ≡ symbol_at one n
-  pub stands : (n : ℕ) → test n ≡ true → symbol_of other n ≡ symbol_of one n
+  pub occurs : (n : ℕ) → test n ≡ true → symbol_of other n ≡ symbol_of one n
 
 -- whether a state declares a name
 abbrev pub declares : State → ℕ → Bool

@@ -13,8 +13,8 @@ use Rattle.gms_eval.specs.Lag.{lagged_label, whole_number}
 use Rattle.gms_eval.specs.Value.{value}
 
 -- each of some sets stands for a label
-abbrev pub StandForLabels : Pairs → List ℕ → Type 0
-StandForLabels binding sets = All (λ set. is_some (label_of binding set) ≡ true) sets
+abbrev pub OccurForLabels : Pairs → List ℕ → Type 0
+OccurForLabels binding sets = All (λ set. is_some (label_of binding set) ≡ true) sets
 
 -- each label of an element is a member of its set
 abbrev pub AreMembers : State → List ℕ → List ℕ → Type 0
@@ -26,7 +26,7 @@ module _ {F : Type 0} (number_of : F → Number) (limit : ℕ) (state : State) (
   -- A lag of an amount goes from the label that its set stands for past the ends of the set.
   pub record GoesPast (set : ℕ) (op : LagOp) (amount : tree.Tree F) : Type 0 where
     pub label : ℕ
-    pub stands : label_of binding set ≡ Some label
+    pub occurs : label_of binding set ≡ Some label
     pub given : Extended
     pub is : value number_of limit state binding amount ≡ Ok given
     pub places : ℤ

@@ -14,7 +14,7 @@ use Rattle.gms_exec.specs.Run.{Course, World, of_statement}
 pub record IsStatementOf {F : Type 0} (program : Program F) (statement : Stmt F) : Type 0 where
   pub before : List (Stmt F)
   pub outer : Stmt F
-  pub stands : FollowsIn program before outer
+  pub occurs : FollowsIn program before outer
   pub depth : ℕ
   pub inside : IsNestedIn depth statement outer
 

@@ -37,7 +37,7 @@ ghost use Rattle.gms_exec.specs.Elements.{AreElements, program_elements as eleme
 ghost use Rattle.gms_exec.specs.Given.{AllGiven};
 ghost use Rattle.gms_exec.specs.Once.{IsOnce};
 ghost use Rattle.gms_exec.specs.Run.{World, run_from};
-ghost use Rattle.gms_run_laws.specs.Labels.{AreMembers, StandForLabels, SomeGoesPast};
+ghost use Rattle.gms_run_laws.specs.Labels.{AreMembers, OccurForLabels, SomeGoesPast};
 ghost use Rattle.gms_run_laws.specs.LastStates.{AreFixed, MayBegin, FitPositions};
 ghost use Rattle.gms_run_laws.specs.Reached.{IsReached, IsStatementOf};
 ghost use Rattle.lp_core.specs.declared.answer.Answer.{Answer};
@@ -56,19 +56,19 @@ use gq_field::ExactField;
 /// GAMS User's Guide, "Data Manipulations with Parameters", controlled indices; "Sets as Sequences:
 /// Ordered Sets".
 pub fn label_laws<F: ExactField>()
-    ensures stand { (program : Program F) (before : List (Stmt F)) (statement : Stmt F) (depth : ℕ) (within : List ℕ) (name : ℕ) (suffix : Suffix) (indices : Indices F) (binding : Pairs) →
+    ensures occur { (program : Program F) (before : List (Stmt F)) (statement : Stmt F) (depth : ℕ) (within : List ℕ) (name : ℕ) (suffix : Suffix) (indices : Indices F) (binding : Pairs) →
         IsAccepted F.value program → FollowsIn program before statement → InStatement depth within (reads name suffix indices) [] statement →
-        StandForLabels binding within → StandForLabels binding (index_sets indices) }
+        OccurForLabels binding within → OccurForLabels binding (index_sets indices) }
     ensures few { (program : Program F) (before : List (Stmt F)) (statement : Stmt F) (depth : ℕ) (within : List ℕ) (name : ℕ) (suffix : Suffix) (indices : Indices F) →
         IsAccepted F.value program → FollowsIn program before statement → InStatement depth within (reads name suffix indices) [] statement →
         index_count indices ≤ 10 }
     ensures tuple { (state : State) (binding : Pairs) (indices : Indices F) (those : List (Option ℕ)) →
-        StandForLabels binding (index_sets indices) → index_count indices ≤ 10 →
+        OccurForLabels binding (index_sets indices) → index_count indices ≤ 10 →
         in_order (labels F.value F.limit state binding indices) ≡ Ok those → tuple_of those ≡ None →
         SomeGoesPast F.value F.limit state binding indices }
     ensures element { (state : State) (binding : Pairs) (around sets element : List ℕ) →
-        StandForLabels binding around → has (elements state sets) element ≡ true →
-        StandForLabels (controlled binding sets element) (around ++ sets) }
+        OccurForLabels binding around → has (elements state sets) element ≡ true →
+        OccurForLabels (controlled binding sets element) (around ++ sets) }
     ensures members { (state : State) (sets element : List ℕ) →
         All (IsSimple state) sets → has (elements state sets) element ≡ true → AreMembers state sets element }
 {}

@@ -18,7 +18,7 @@ use Rattle.gms_scope.specs.DynamicSets.{dynamic_sets}
 use Rattle.gms_scope.specs.Facts.{marked, with_marks}
 use Rattle.gms_check.specs.Loaded.{loaded}
 use Rattle.gms_check.specs.Past.{is_among}
-use Rattle.gms_check.proofs.PastFacts.{stands-first}
+use Rattle.gms_check.proofs.PastFacts.{occurs-first}
 use Rattle.gms_save_text.specs.SavedState.{saved_line, part, parts_from, settings_line, state_text}
 use Rattle.gms_save_text.specs.Validity.{IsGivenWell, are_in_range, declared_symbols, emptied, is_solver_name, fits_domain}
 use Rattle.gms_save.specs.Saves.{with_solver}
@@ -38,7 +38,7 @@ nothing-past state n past = past-end state.symbols n past
 -- an undeclared name has no data
 none-well : (limit labels : ℕ) (state : State) → IsGivenWell limit labels state no_symbol
 none-well limit labels state =
-    record { ordered = ordered-nil; few = All-nil _; stand = All-nil _; fit = λ t. refl; differs = λ t. sym (no_difference (absent undeclared)); statuses = refl }
+    record { ordered = ordered-nil; few = All-nil _; occur = All-nil _; fit = λ t. refl; differs = λ t. sym (no_difference (absent undeclared)); statuses = refl }
 
 -- ---- aliases
 
@@ -91,7 +91,7 @@ marks_of program = with_marks (replicate (length program.names) false) (dynamic_
 -- a name of a program is marked where it is assigned
 marked-is : (program : Program Frac) (n : ℕ) → n < length program.names → marked (marks_of program) n ≡ is_among (dynamic_sets program) n
 marked-is program n below =
-    (stands-first frac_value program).dynamic n ∙ ap (λ (b : Bool). b && is_among (dynamic_sets program) n) (lt-ltb n (length program.names) below)
+    (occurs-first frac_value program).dynamic n ∙ ap (λ (b : Bool). b && is_among (dynamic_sets program) n) (lt-ltb n (length program.names) below)
 
 module _ (program : Program Frac) (state first : State) (marks : List Bool) (labels : ℕ) (names : ℕ) (solver : List ℕ) (declares : declared_symbols state ≡ declared_symbols (declared_state program)) (first_is : first ≡ loaded frac_value program) (marks_are : marks ≡ marks_of program) (labels_are : labels ≡ length program.labels) (names_are : names ≡ length program.names) where
   -- the data declare what the state does
@@ -145,19 +145,19 @@ module _ (program : Program Frac) (state first : State) (marks : List Bool) (lab
 -- ---- settings
 
 module _ (labels : ℕ) (state : State) (settings : Settings) where
-  stands-settled : (domain : List (Option ℕ)) (tuple : List ℕ) → fits_domain labels state domain tuple ≡ fits_domain labels (with_settings state settings) domain tuple
-  stands-settled [] [] = refl
-  stands-settled [] (label ∷ tuple) = refl
-  stands-settled (set ∷ domain) [] = refl
-  stands-settled (None ∷ domain) (label ∷ tuple) = ap (λ (b : Bool). nat_lt label labels && b) (stands-settled domain tuple)
-  stands-settled (Some set ∷ domain) (label ∷ tuple) =
-      ap (λ (b : Bool). nat_lt label labels && (has (members_of state set) (label ∷ []) && b)) (stands-settled domain tuple)
+  occurs-settled : (domain : List (Option ℕ)) (tuple : List ℕ) → fits_domain labels state domain tuple ≡ fits_domain labels (with_settings state settings) domain tuple
+  occurs-settled [] [] = refl
+  occurs-settled [] (label ∷ tuple) = refl
+  occurs-settled (set ∷ domain) [] = refl
+  occurs-settled (None ∷ domain) (label ∷ tuple) = ap (λ (b : Bool). nat_lt label labels && b) (occurs-settled domain tuple)
+  occurs-settled (Some set ∷ domain) (label ∷ tuple) =
+      ap (λ (b : Bool). nat_lt label labels && (has (members_of state set) (label ∷ []) && b)) (occurs-settled domain tuple)
 
   given-settled : (limit : ℕ) (symbol : Symbol) → IsGivenWell limit labels state symbol → IsGivenWell limit labels (with_settings state settings) symbol
   given-settled limit symbol well = record {
     ordered = well.ordered;
     few = well.few;
-    stand = All-weaker (λ t. fits_domain labels state symbol.domain t ≡ true) (λ t. fits_domain labels (with_settings state settings) symbol.domain t ≡ true) (λ t e. sym (stands-settled symbol.domain t) ∙ e) (given_in symbol.content) well.stand;
+    occur = All-weaker (λ t. fits_domain labels state symbol.domain t ≡ true) (λ t. fits_domain labels (with_settings state settings) symbol.domain t ≡ true) (λ t e. sym (occurs-settled symbol.domain t) ∙ e) (given_in symbol.content) well.occur;
     fit = well.fit;
     differs = well.differs;
     statuses = well.statuses;

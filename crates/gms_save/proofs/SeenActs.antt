@@ -34,7 +34,7 @@ use Rattle.gms_check.specs.Past.{Known, after_act, equations_declared, gives_uno
 use Rattle.gms_check.specs.Past.{defines as defines_equation}
 use Rattle.gms_check.specs.Contexts.{as_side}
 use Rattle.gms_check.specs.InnerStatements.{act_uses}
-use Rattle.gms_check.specs.StatementUses.{UsesOfAct, UsesOfStatement, index_list, option_uses, right_standing, show_uses, statement_uses}
+use Rattle.gms_check.specs.StatementUses.{UsesOfAct, UsesOfStatement, index_list, option_uses, right_context, show_uses, statement_uses}
 use Rattle.gms_check.specs.StatementUses.{act_uses_step as use_step, statement_uses_step as use_statement}
 use Rattle.gms_check.specs.Uses.{Uses, assigning, condition_uses, control_uses, defining, first_alias, index_sets, method, optimizing, second_alias, sets_of_control, shift_uses, solving, uses}
 use Rattle.gms_check.proofs.ActUses.{uses-act}
@@ -100,7 +100,7 @@ shows = fold-roll-Act Frac (Act Number) (Statements Number → Statements Number
 -- what an assignment uses, by its parts
 abbrev assignment_uses : State → Place → List ℕ → Place → ℕ → Suffix → Place → Indices Frac → Option (Tree Frac) → Tree Frac → Uses Frac
 assignment_uses state at controlled target_at name suffix right_at indices condition right =
-    (target_at, assigning name suffix indices) ∷ ((shift_uses (controlled ++ index_sets indices) indices ++ condition_uses at (controlled ++ index_sets indices) condition) ++ uses (right_standing state name) right_at (controlled ++ index_sets indices) right)
+    (target_at, assigning name suffix indices) ∷ ((shift_uses (controlled ++ index_sets indices) indices ++ condition_uses at (controlled ++ index_sets indices) condition) ++ uses (right_context state name) right_at (controlled ++ index_sets indices) right)
 
 -- what a definition uses, by its parts
 abbrev definition_uses : Place → List ℕ → Place → ℕ → Place → Place → Indices Frac → Option (Tree Frac) → Tree Frac × Tree Frac → Uses Frac

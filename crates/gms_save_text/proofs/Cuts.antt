@@ -6,17 +6,17 @@ use Rattle.gms_save_text.specs.Reading.{HasNone, bytes_before}
 
 -- ---- prefixes
 
-pub take_front : (xs ys : List ℕ) → take (length xs) (xs ++ ys) ≡ xs
-take_front [] ys = refl
-take_front (x ∷ xs) ys = ap (λ l. x ∷ l) (take_front xs ys)
+pub take_prefix : (xs ys : List ℕ) → take (length xs) (xs ++ ys) ≡ xs
+take_prefix [] ys = refl
+take_prefix (x ∷ xs) ys = ap (λ l. x ∷ l) (take_prefix xs ys)
 
-pub drop_front : (xs ys : List ℕ) → drop (length xs) (xs ++ ys) ≡ ys
-drop_front [] ys = refl
-drop_front (x ∷ xs) ys = drop_front xs ys
+pub drop_prefix : (xs ys : List ℕ) → drop (length xs) (xs ++ ys) ≡ ys
+drop_prefix [] ys = refl
+drop_prefix (x ∷ xs) ys = drop_prefix xs ys
 
-pub drop_behind : (xs : List ℕ) (b : ℕ) (ys : List ℕ) → drop (suc (length xs)) (xs ++ b ∷ ys) ≡ ys
-drop_behind [] b ys = refl
-drop_behind (x ∷ xs) b ys = drop_behind xs b ys
+pub drop_after : (xs : List ℕ) (b : ℕ) (ys : List ℕ) → drop (suc (length xs)) (xs ++ b ∷ ys) ≡ ys
+drop_after [] b ys = refl
+drop_after (x ∷ xs) b ys = drop_after xs b ys
 
 -- what a range up to the end has
 pub tail_range : (n : ℕ) (xs : List ℕ) → take (length xs - n) (drop n xs) ≡ drop n xs
@@ -40,7 +40,7 @@ place-found byte (b ∷ prefix) rest none =
 -- the text before the first of these bytes, and the text after it
 pub record IsCut (byte : ℕ) (text prefix rest : List ℕ) : Type 0 where
   pub within : bytes_before byte text < length text
-  pub front_is : take (bytes_before byte text) text ≡ prefix
+  pub prefix_is : take (bytes_before byte text) text ≡ prefix
   pub rest_is : take (length text - (bytes_before byte text + 1)) (drop (bytes_before byte text + 1) text) ≡ rest
 
 pub cut_at : (byte : ℕ) (text prefix rest : List ℕ) → HasNone byte prefix → text ≡ prefix ++ byte ∷ rest → IsCut byte text prefix rest
@@ -48,8 +48,8 @@ cut_at byte text prefix rest none is =
     let place : bytes_before byte text ≡ length prefix = ap (bytes_before byte) is ∙ place-found byte prefix rest none in
     record {
       within = let size : length text ≡ length prefix + suc (length rest) = ap length is ∙ length-append prefix (byte ∷ rest) in omega (arith, place, size);
-      front_is = ap₂ (λ (n : ℕ) (l : List ℕ). take n l) place is ∙ take_front prefix (byte ∷ rest);
-      rest_is = tail_range (bytes_before byte text + 1) text ∙ ap (λ n. drop n text) (add-one (bytes_before byte text)) ∙ ap₂ (λ (n : ℕ) (l : List ℕ). drop (suc n) l) place is ∙ drop_behind prefix byte rest;
+      prefix_is = ap₂ (λ (n : ℕ) (l : List ℕ). take n l) place is ∙ take_prefix prefix (byte ∷ rest);
+      rest_is = tail_range (bytes_before byte text + 1) text ∙ ap (λ n. drop n text) (add-one (bytes_before byte text)) ∙ ap₂ (λ (n : ℕ) (l : List ℕ). drop (suc n) l) place is ∙ drop_after prefix byte rest;
     }
 
 -- ---- texts without a byte

@@ -5,11 +5,11 @@ use Rattle.gms_store.specs.declared.kind.SymbolKind.TheVariants as kind
 use Rattle.gms_store.specs.State.{Content, undeclared, alias_of, set_of, parameter_of, variable_of, equation_of, model_with, State, after_membership, after_value, after_attributes, value_in, attributes_in, value_fits, attributes_fit, fits_at}
 use Rattle.gms_save_text.specs.SavedState.{saved_line, tuple_text, value_text, attributes_text, given_text, entry_line}
 use Rattle.gms_save_text.specs.Reading.{HasEntriesOfKind, after_entry}
-use Rattle.gms_save_text.proofs.Lines.{line_front}
+use Rattle.gms_save_text.proofs.Lines.{line_prefix}
 
 -- a line after the labels of its tuple
-pub behind_tuple : (content : Content) (t rest : List ℕ) → entry_line content t ++ rest ≡ tuple_text t ++ (saved_line (given_text content t) ++ rest)
-behind_tuple content t rest = line_front (tuple_text t) (given_text content t) rest (saved_line (given_text content t) ++ rest) refl
+pub after_tuple : (content : Content) (t rest : List ℕ) → entry_line content t ++ rest ≡ tuple_text t ++ (saved_line (given_text content t) ++ rest)
+after_tuple content t rest = line_prefix (tuple_text t) (given_text content t) rest (saved_line (given_text content t) ++ rest) refl
 
 -- ---- sets
 

@@ -14,26 +14,26 @@ use Rattle.gms_save_text.specs.Validity.{IsGivenWell, fits_position, fits_domain
 
 module _ (labels : ℕ) (state : State) where
   -- a tuple in a domain has a label for each position
-  stands-length : (domain : List (Option ℕ)) (tuple : List ℕ) → fits_domain labels state domain tuple ≡ true → length domain ≡ length tuple
-  stands-length [] [] e = refl
-  stands-length [] (label ∷ tuple) e = absurd cc
-  stands-length (set ∷ domain) [] e = absurd cc
-  stands-length (set ∷ domain) (label ∷ tuple) e =
+  occurs-length : (domain : List (Option ℕ)) (tuple : List ℕ) → fits_domain labels state domain tuple ≡ true → length domain ≡ length tuple
+  occurs-length [] [] e = refl
+  occurs-length [] (label ∷ tuple) e = absurd cc
+  occurs-length (set ∷ domain) [] e = absurd cc
+  occurs-length (set ∷ domain) (label ∷ tuple) e =
       let first = and_parts (nat_lt label labels) (fits_position state set label && fits_domain labels state domain tuple) e in
       let second = and_parts (fits_position state set label) (fits_domain labels state domain tuple) first.1 in
-      ap suc (stands-length domain tuple second.1)
+      ap suc (occurs-length domain tuple second.1)
 
   -- a tuple of another length does not
-  pub stands-not : (domain : List (Option ℕ)) (tuple : List ℕ) → (length domain ≡ length tuple → ⊥) → false ≡ fits_domain labels state domain tuple
-  stands-not domain tuple other = by (fits_domain labels state domain tuple) refl
+  pub occurs-not : (domain : List (Option ℕ)) (tuple : List ℕ) → (length domain ≡ length tuple → ⊥) → false ≡ fits_domain labels state domain tuple
+  occurs-not domain tuple other = by (fits_domain labels state domain tuple) refl
     where
       by : (b : Bool) → fits_domain labels state domain tuple ≡ b → false ≡ b
-      by true e = absurd (other (stands-length domain tuple e))
+      by true e = absurd (other (occurs-length domain tuple e))
       by false e = refl
 
   -- from a position on
-  pub stands-next : (domain : List (Option ℕ)) (tuple : List ℕ) (k : ℕ) (set : Option ℕ) (label : ℕ) → k < length domain → length domain ≡ length tuple → fits_domain labels state (drop k domain) (drop k tuple) ≡ (nat_lt (get_or tuple k label) labels && (fits_position state (get_or domain k set) (get_or tuple k label) && fits_domain labels state (drop (k + 1) domain) (drop (k + 1) tuple)))
-  stands-next domain tuple k set label within same =
+  pub occurs-next : (domain : List (Option ℕ)) (tuple : List ℕ) (k : ℕ) (set : Option ℕ) (label : ℕ) → k < length domain → length domain ≡ length tuple → fits_domain labels state (drop k domain) (drop k tuple) ≡ (nat_lt (get_or tuple k label) labels && (fits_position state (get_or domain k set) (get_or tuple k label) && fits_domain labels state (drop (k + 1) domain) (drop (k + 1) tuple)))
+  occurs-next domain tuple k set label within same =
       ap₂ (λ (d : List (Option ℕ)) (t : List ℕ). fits_domain labels state d t) (drop_more domain k set within) (drop_more tuple k label (omega (arith, same, within)))
 
 -- what is the same as a member is one
@@ -53,7 +53,7 @@ pub alias_well : (limit labels : ℕ) (state : State) (symbol : Symbol) → is_a
 alias_well limit labels state symbol a = by symbol.domain symbol.content a
   where
     by : (domain : List (Option ℕ)) (content : Content) → is_alias content ≡ true → IsGivenWell limit labels state (record { domain = domain; content = content })
-    by domain (alias_of base) a = record { ordered = ordered-nil; few = All-nil _; stand = All-nil _; fit = λ t. refl; differs = λ t. sym (no_difference (absent (alias_of base))); statuses = refl }
+    by domain (alias_of base) a = record { ordered = ordered-nil; few = All-nil _; occur = All-nil _; fit = λ t. refl; differs = λ t. sym (no_difference (absent (alias_of base))); statuses = refl }
     by domain undeclared a = absurd cc
     by domain (set_of members) a = absurd cc
     by domain (parameter_of entries) a = absurd cc

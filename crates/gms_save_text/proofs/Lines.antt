@@ -7,13 +7,13 @@ pub line_end : (a rest : List ℕ) → saved_line a ++ rest ≡ a ++ 10 ∷ rest
 line_end a rest = append_assoc a (10 ∷ []) rest
 
 -- a line from a prefix on
-pub line_front : (a y rest z : List ℕ) → saved_line y ++ rest ≡ z → saved_line (a ++ y) ++ rest ≡ a ++ z
-line_front [] y rest z e = e
-line_front (x ∷ a) y rest z e = ap (λ l. x ∷ l) (line_front a y rest z e)
+pub line_prefix : (a y rest z : List ℕ) → saved_line y ++ rest ≡ z → saved_line (a ++ y) ++ rest ≡ a ++ z
+line_prefix [] y rest z e = e
+line_prefix (x ∷ a) y rest z e = ap (λ l. x ∷ l) (line_prefix a y rest z e)
 
 -- an item of a line and the blank after it
 pub line_item : (a y rest z : List ℕ) → saved_line y ++ rest ≡ z → saved_line (a ++ 32 ∷ y) ++ rest ≡ a ++ 32 ∷ z
-line_item a y rest z e = line_front a (32 ∷ y) rest (32 ∷ z) (ap (λ l. 32 ∷ l) e)
+line_item a y rest z e = line_prefix a (32 ∷ y) rest (32 ∷ z) (ap (λ l. 32 ∷ l) e)
 
 -- the last item of a line, after another
 pub line_last : (a b rest : List ℕ) → saved_line (a ++ 32 ∷ b) ++ rest ≡ a ++ 32 ∷ (b ++ 10 ∷ rest)

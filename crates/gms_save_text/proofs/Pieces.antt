@@ -13,8 +13,8 @@ pieces_more piece things k d within =
     ∙ ap (λ l. flat_map piece (take k things) ++ l) (append-nil (piece (get_or things k d)))
 
 -- a piece after others
-pub piece_behind : (old a b i j : List ℕ) → i ≡ old ++ a → j ≡ i ++ b → j ≡ old ++ (a ++ b)
-piece_behind old a b i j e f = f ∙ ap (λ x. x ++ b) e ∙ append_assoc old a b
+pub piece_after : (old a b i j : List ℕ) → i ≡ old ++ a → j ≡ i ++ b → j ≡ old ++ (a ++ b)
+piece_after old a b i j e f = f ∙ ap (λ x. x ++ b) e ∙ append_assoc old a b
 
 -- the parts of the first names, and the part of the next one
 more_parts : (state : State) (n : ℕ) (names : List (List ℕ)) (k : ℕ) (name : List ℕ) → slice_get names k ≡ Some name → parts_from state n (take (suc k) names) ≡ parts_from state n (take k names) ++ part name (symbol_at state (n + k)).content

@@ -16,11 +16,11 @@ use Rattle.gms_save_text.proofs.Declared.{AreBlank, IsBlank, blanked}
 
 -- ---- tuples
 
-record Standing (labels arity : ℕ) (t : List ℕ) : Type 0 where
+record Valid (labels arity : ℕ) (t : List ℕ) : Type 0 where
   pub count : length t ≡ arity
   pub small : AllByRecursion (λ label. label < labels) t
 
-valid : (labels : ℕ) (state : State) (domain : List (Option ℕ)) (t : List ℕ) → fits_domain labels state domain t ≡ true → Standing labels (length domain) t
+valid : (labels : ℕ) (state : State) (domain : List (Option ℕ)) (t : List ℕ) → fits_domain labels state domain t ≡ true → Valid labels (length domain) t
 valid labels state [] [] e = record { count = refl; small = tt }
 valid labels state [] (label ∷ t) e = absurd cc
 valid labels state (set ∷ domain) [] e = absurd cc
@@ -47,9 +47,9 @@ has_more t u ts e = ap (λ b. same_tuple u t || b) e ∙ by (same_tuple u t)
     by false = refl
 
 entries : (limit labels : ℕ) (state : State) (domain : List (Option ℕ)) (content : Content) (tuples : List (List ℕ)) → labels ≤ 2 ^ 32 → AllByRecursion (λ t. length t ≤ 10) tuples → AllByRecursion (λ t. fits_domain labels state domain t ≡ true) tuples → ((t : List ℕ) → fits_at limit content t ≡ true) → ((t : List ℕ) → has tuples t ≡ true → differs_in content t ≡ true) → AllByRecursion (IsReadable limit (length domain) content) tuples
-entries limit labels state domain content [] small few stand fit differ = tt
-entries limit labels state domain content (t ∷ tuples) small few stand fit differ =
-    let here = valid labels state domain t stand.0 in
+entries limit labels state domain content [] small few occur fit differ = tt
+entries limit labels state domain content (t ∷ tuples) small few occur fit differ =
+    let here = valid labels state domain t occur.0 in
     let count = here.count in
     let short = few.0 in (
       record {
@@ -57,7 +57,7 @@ entries limit labels state domain content (t ∷ tuples) small few stand fit dif
         fit = fit t;
         differs = differ t (has_first t tuples);
       },
-      entries limit labels state domain content tuples small few.1 stand.1 fit (λ u e. differ u (has_more u t tuples e)),
+      entries limit labels state domain content tuples small few.1 occur.1 fit (λ u e. differ u (has_more u t tuples e)),
     )
 
 -- ---- statuses
@@ -79,7 +79,7 @@ module _ (limit labels : ℕ) (state : State) (few : labels ≤ 2 ^ 32) where
         declared = sym blank ∙ sym parts.1;
         ordered = well.ordered;
         entries = subst (λ (d : List (Option ℕ)). AllByRecursion (IsReadable limit (length d) symbol.content) (given_in symbol.content)) parts.0
-            (entries limit labels state symbol.domain symbol.content (given_in symbol.content) few (recursion_from_All (λ t. length t ≤ 10) (given_in symbol.content) well.few) (recursion_from_All (λ t. fits_domain labels state symbol.domain t ≡ true) (given_in symbol.content) well.stand) well.fit (λ t e. sym (well.differs t) ∙ e));
+            (entries limit labels state symbol.domain symbol.content (given_in symbol.content) few (recursion_from_All (λ t. length t ≤ 10) (given_in symbol.content) well.few) (recursion_from_All (λ t. fits_domain labels state symbol.domain t ≡ true) (given_in symbol.content) well.occur) well.fit (λ t e. sym (well.differs t) ∙ e));
         model = small.0;
         solver = small.1;
       }

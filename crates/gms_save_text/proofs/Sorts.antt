@@ -9,7 +9,7 @@ use Rattle.gms_save_text.specs.SavedState.{saved_line, tuple_text, given_text, e
 use Rattle.gms_save_text.specs.Validity.{emptied}
 use Rattle.gms_save_text.specs.Reading.{HasEntriesOfKind, IsReadable, IsReadablePart, kind_word}
 use Rattle.gms_save_text.proofs.Filling.{AllDiffer, set-same}
-use Rattle.gms_save_text.proofs.Lines.{line_end, line_front}
+use Rattle.gms_save_text.proofs.Lines.{line_end, line_prefix}
 
 -- ---- what a content is
 
@@ -174,10 +174,10 @@ pub kind_too : (limit : ℕ) (declared : Symbol) (content : Content) (k : Symbol
 kind_too limit declared content k readable e = sym (kind_same content) ∙ ap kind_in (sym readable.declared) ∙ e
 
 -- the part of an alias, item by item
-pub alias_front : (name : List ℕ) (content : Content) (rest : List ℕ) → is_alias content ≡ true → part name content ++ rest ≡ codes "alias " ++ (name ++ 10 ∷ rest)
-alias_front name content rest a = ap (λ (p : List ℕ). p ++ rest) (alias_line name content a) ∙ line_front (codes "alias ") name rest (name ++ 10 ∷ rest) (line_end name rest)
+pub alias_prefix : (name : List ℕ) (content : Content) (rest : List ℕ) → is_alias content ≡ true → part name content ++ rest ≡ codes "alias " ++ (name ++ 10 ∷ rest)
+alias_prefix name content rest a = ap (λ (p : List ℕ). p ++ rest) (alias_line name content a) ∙ line_prefix (codes "alias ") name rest (name ++ 10 ∷ rest) (line_end name rest)
 
 -- the part of a name that has entries, from the line with which it begins on
-pub entries_front : (name : List ℕ) (content : Content) (k : SymbolKind) (rest : List ℕ) → is_alias content ≡ false → kind_in content ≡ k → k ≢ kind.Undeclared → k ≢ kind.Model → part name content ++ rest ≡ saved_line (kind_word k ++ (name ++ (codes " " ++ decimal (length (given_in content))))) ++ (entry_lines content ++ rest)
-entries_front name content k rest a e u m =
+pub entries_prefix : (name : List ℕ) (content : Content) (k : SymbolKind) (rest : List ℕ) → is_alias content ≡ false → kind_in content ≡ k → k ≢ kind.Undeclared → k ≢ kind.Model → part name content ++ rest ≡ saved_line (kind_word k ++ (name ++ (codes " " ++ decimal (length (given_in content))))) ++ (entry_lines content ++ rest)
+entries_prefix name content k rest a e u m =
     ap (λ (p : List ℕ). p ++ rest) (entries_part name content k a e u m) ∙ append_assoc (head_line (kind_word k) name content) (entry_lines content) rest

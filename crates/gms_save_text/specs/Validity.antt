@@ -70,7 +70,7 @@ pub record IsGivenWell (limit labels : ℕ) (state : State) (symbol : Symbol) : 
   pub ordered : IsOrdered (given_in symbol.content)
   -- a tuple has at most 10 labels
   pub few : All (λ t. length t ≤ 10) (given_in symbol.content)
-  pub stand : All (λ t. fits_domain labels state symbol.domain t ≡ true) (given_in symbol.content)
+  pub occur : All (λ t. fits_domain labels state symbol.domain t ≡ true) (given_in symbol.content)
   pub fit : (t : List ℕ) → fits_at limit symbol.content t ≡ true
   pub differs : (t : List ℕ) → has (given_in symbol.content) t ≡ differs_in symbol.content t
   pub statuses : are_statuses (statuses_in symbol.content).0 (statuses_in symbol.content).1 ≡ true

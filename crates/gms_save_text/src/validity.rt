@@ -72,7 +72,7 @@ fn fits_position<F: ExactField>(
     set: Option<u32>,
     label: u32,
 ) -> Result<bool, AllocError>
-    ensures { IfOk result (λ stands. stands ≡ fits_position store.now set label) }
+    ensures { IfOk result (λ occurs. occurs ≡ fits_position store.now set label) }
 {
     let Some(set) = set else {
         return Ok(true);
@@ -114,7 +114,7 @@ fn fits_domain<F: ExactField>(
     domain: &[Option<u32>],
     tuple: &[u32],
 ) -> Result<bool, AllocError>
-    ensures { IfOk result (λ stands. stands ≡ fits_domain labels store.now domain.now tuple.now) }
+    ensures { IfOk result (λ occurs. occurs ≡ fits_domain labels store.now domain.now tuple.now) }
 {
     if domain.len() != tuple.len() {
         return Ok(false);

@@ -30,7 +30,7 @@ pub fn see<F>(
         let member = tuple.copy(alloc)?;
         return set.insert(alloc, member);
     }
-    if is_behind(given, tuple) {
+    if is_after(given, tuple) {
         return Ok(true);
     }
     let mut set = set_of(alloc, given)?;
@@ -41,7 +41,7 @@ pub fn see<F>(
 }
 
 /// Whether a tuple comes after the last of those that are given in order, and so after all.
-fn is_behind<F>(given: &[(Tuple, Option<Ext<F>>)], tuple: &Tuple) -> bool
+fn is_after<F>(given: &[(Tuple, Option<Ext<F>>)], tuple: &Tuple) -> bool
     requires { IsOrdered (tuples_of given.now) }
     ensures { IsTrue result → IsOrdered (tuples_of given.now ++ tuple.now ∷ []) }
 {

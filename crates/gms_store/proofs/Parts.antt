@@ -100,8 +100,8 @@ module _ {X : Type 0} where
 
   -- a write to the appended part is a write to the map, if its search finds the new value at the
   -- tuple and is unchanged elsewhere
-  behind_write : (following new : List (List ℕ × Option X)) (tree : List (List ℕ × X)) (t : List ℕ) (o : Option X) → ((q : List ℕ) → finite.find tuple_cmp q new ≡ cond (eq_by_cmp tuple_cmp q t) (Some o) (finite.find tuple_cmp q following)) → in_two_parts new tree ≡ written o (in_two_parts following tree) t
-  behind_write following new tree t o finds =
+  after_write : (following new : List (List ℕ × Option X)) (tree : List (List ℕ × X)) (t : List ℕ) (o : Option X) → ((q : List ℕ) → finite.find tuple_cmp q new ≡ cond (eq_by_cmp tuple_cmp q t) (Some o) (finite.find tuple_cmp q following)) → in_two_parts new tree ≡ written o (in_two_parts following tree) t
+  after_write following new tree t o finds =
       by_write o (in_two_parts following tree) (in_two_parts new tree) t (λ q. get-parts new tree q ∙ ap (λ f. unwrap_or f (lookup (is_at (tuple_cmp q)) tree)) (finds q) ∙ sym (found_first (eq_by_cmp tuple_cmp q t) o (finite.find tuple_cmp q following) (lookup (is_at (tuple_cmp q)) tree)) ∙ ap (cond (eq_by_cmp tuple_cmp q t) o) (sym (get-parts following tree q)))
 
   find-pushed : (following : List (List ℕ × Option X)) (t : List ℕ) (o : Option X) (q : List ℕ) → IsOrdered (keys_of following ++ t ∷ []) → finite.find tuple_cmp q (following ++ (t, o) ∷ []) ≡ cond (eq_by_cmp tuple_cmp q t) (Some o) (finite.find tuple_cmp q following)
@@ -112,7 +112,7 @@ module _ {X : Type 0} where
 
   -- a tuple appended after all others, with a value or none
   pub pushed : (following : List (List ℕ × Option X)) (tree : List (List ℕ × X)) (t : List ℕ) (o : Option X) → IsOrdered (keys_of following ++ t ∷ []) → in_two_parts (following ++ (t, o) ∷ []) tree ≡ written o (in_two_parts following tree) t
-  pushed following tree t o ordered = behind_write following (following ++ (t, o) ∷ []) tree t o (λ q. find-pushed following t o q ordered)
+  pushed following tree t o ordered = after_write following (following ++ (t, o) ∷ []) tree t o (λ q. find-pushed following t o q ordered)
 
   pub keys-pushed : (following : List (List ℕ × Option X)) (t : List ℕ) (o : Option X) → keys_of (following ++ (t, o) ∷ []) ≡ keys_of following ++ t ∷ []
   keys-pushed [] t o = refl
@@ -141,7 +141,7 @@ module _ {X : Type 0} where
 
   -- a tuple of the appended part, with another value or none
   pub replaced : (following : List (List ℕ × Option X)) (tree : List (List ℕ × X)) (place : ℕ) (t : List ℕ) (o : Option X) → IsOrdered (keys_of following) → IsAtPlace following place t → in_two_parts (set following place (t, o)) tree ≡ written o (in_two_parts following tree) t
-  replaced following tree place t o ordered at = behind_write following (set following place (t, o)) tree t o (λ q. find-replaced following place t o q ordered at.0 at.1)
+  replaced following tree place t o ordered at = after_write following (set following place (t, o)) tree t o (λ q. find-replaced following place t o q ordered at.0 at.1)
 
   pub keys-replaced : (following : List (List ℕ × Option X)) (place : ℕ) (t : List ℕ) (o : Option X) → ((d : List ℕ × Option X) → (get_or following place d).0 ≡ t) → place < length following → keys_of (set following place (t, o)) ≡ keys_of following
   keys-replaced [] place t o at within = absurd (omega (arith, within))
@@ -160,8 +160,8 @@ module _ {X : Type 0} where
       subst IsOrdered (sym (ap keys_of (puts t there) ∙ keys-replaced following place t o there.1 there.0)) ordered
 
   -- the tuple that is read at a place is at that place
-  pub stands_read : (following : List (List ℕ × Option X)) (place : ℕ) (t : List ℕ) (e : List ℕ × Option X) → place < length following → e ≡ get_or following place e → e.0 ≡ t → IsAtPlace following place t
-  stands_read following place t e within is same = (within, λ d. ap (λ (e : List ℕ × Option X). e.0) (get_or_default following place d e within ∙ sym is) ∙ same)
+  pub occurs_read : (following : List (List ℕ × Option X)) (place : ℕ) (t : List ℕ) (e : List ℕ × Option X) → place < length following → e ≡ get_or following place e → e.0 ≡ t → IsAtPlace following place t
+  occurs_read following place t e within is same = (within, λ d. ap (λ (e : List ℕ × Option X). e.0) (get_or_default following place d e within ∙ sym is) ∙ same)
 
   -- the search for a tuple finds the value at its place
   find-at : (following : List (List ℕ × Option X)) (place : ℕ) (t : List ℕ) (d : List ℕ × Option X) → IsOrdered (keys_of following) → place < length following → ((d : List ℕ × Option X) → (get_or following place d).0 ≡ t) → finite.find tuple_cmp t following ≡ Some (get_or following place d).1
@@ -192,9 +192,9 @@ module _ {X : Type 0} where
       by q false other = refl
 
   -- the appended part after an empty tree
-  pub same_behind : (following copy : List (List ℕ × Option X)) (tree new : List (List ℕ × X)) → copy ≡ following → length tree ≡ 0 → new ≡ [] → in_two_parts copy new ≡ in_two_parts following tree
-  same_behind following copy [] new same none empty = ap (λ b. in_two_parts b new) same ∙ ap (in_two_parts following) empty
-  same_behind following copy (e ∷ tree) new same none empty = absurd (omega (arith, none))
+  pub same_after : (following copy : List (List ℕ × Option X)) (tree new : List (List ℕ × X)) → copy ≡ following → length tree ≡ 0 → new ≡ [] → in_two_parts copy new ≡ in_two_parts following tree
+  same_after following copy [] new same none empty = ap (λ b. in_two_parts b new) same ∙ ap (in_two_parts following) empty
+  same_after following copy (e ∷ tree) new same none empty = absurd (omega (arith, none))
 
   -- ---- searches
 

@@ -10,8 +10,8 @@ pub field_bytes-le : (test : ℕ → Bool) (text : List ℕ) → field_bytes tes
 field_bytes-le test text = field_length-le test _ text
 
 -- the fields after a field: none at the end of the text, else those after the byte that splits it
-abbrev pub stretches_behind : (ℕ → Bool) → List ℕ → List (List ℕ)
-stretches_behind test text = others_by (parted test) text
+abbrev pub fields_after : (ℕ → Bool) → List ℕ → List (List ℕ)
+fields_after test text = others_by (parted test) text
 
 -- the fields of shorter texts are the same for two bounds
 same_others : (test : ℕ → Bool) (one other : ℕ) (text : List ℕ) → ((rest : List ℕ) → length rest < length text → first_fields test one rest ≡ first_fields test other rest) → others_by (first_fields test one) text ≡ others_by (first_fields test other) text
@@ -26,11 +26,11 @@ enough test (suc one) (suc other) text h k =
     ap (λ (others : List (List ℕ)). take (field_bytes test text) text ∷ others)
     (same_others test one other (drop (field_bytes test text) text) (λ rest shorter. enough test one other rest (omega (arith, h, shorter, length-drop (field_bytes test text) text)) (omega (arith, k, shorter, length-drop (field_bytes test text) text))))
 
-following-same : (test : ℕ → Bool) (most : ℕ) (text : List ℕ) → length text ≤ most → others_by (first_fields test most) text ≡ stretches_behind test text
+following-same : (test : ℕ → Bool) (most : ℕ) (text : List ℕ) → length text ≤ most → others_by (first_fields test most) text ≡ fields_after test text
 following-same test most [] h = refl
 following-same test most (b ∷ rest) h = enough test most (suc (length rest)) rest (omega (arith, h)) (omega arith)
 
 -- a text is its first field and what follows it
-pub parted-stretch : (test : ℕ → Bool) (text : List ℕ) → parted test text ≡ take (field_bytes test text) text ∷ stretches_behind test (drop (field_bytes test text) text)
-parted-stretch test text =
+pub parted-field : (test : ℕ → Bool) (text : List ℕ) → parted test text ≡ take (field_bytes test text) text ∷ fields_after test (drop (field_bytes test text) text)
+parted-field test text =
     ap (λ (others : List (List ℕ)). take (field_bytes test text) text ∷ others) (following-same test (length text) (drop (field_bytes test text) text) (omega (arith, length-drop (field_bytes test text) text)))

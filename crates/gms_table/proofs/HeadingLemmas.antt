@@ -68,9 +68,9 @@ finds_none table [] number are = refl
 finds_none table (name ∷ rest) number are = absurd are
 
 -- the first remaining heading comes after the number
-pub finds_behind : (table : List (List ℕ)) (column : ℕ) (rest : List Word) (number : Word) (heading : Heading) (headings : List Heading) → AreSpacedFrom column rest → AreHeadings table rest (heading ∷ headings) → number.end ≤ heading.column → met rest number ≡ []
-finds_behind table column [] number heading headings spaced are h = absurd (cc)
-finds_behind table column (name ∷ rest) number heading headings spaced are h =
+pub finds_after : (table : List (List ℕ)) (column : ℕ) (rest : List Word) (number : Word) (heading : Heading) (headings : List Heading) → AreSpacedFrom column rest → AreHeadings table rest (heading ∷ headings) → number.end ≤ heading.column → met rest number ≡ []
+finds_after table column [] number heading headings spaced are h = absurd (cc)
+finds_after table column (name ∷ rest) number heading headings spaced are h =
     rw (meet-following number name (omega (arith, are.0.column))) (met-following name.end rest number spaced.2 (omega (arith, are.0.column, spaced.1)))
 
 -- A number meets this heading and no other.
@@ -89,7 +89,7 @@ finds_one table column (name ∷ []) number heading headings spaced are h k last
 }
 finds_one table column (name ∷ next ∷ rest) number heading [] spaced are h k last = absurd are.1
 finds_one table column (name ∷ next ∷ rest) number heading (second ∷ headings) spaced are h k last =
-    let following : met (next ∷ rest) number ≡ [] = finds_behind table name.end (next ∷ rest) number second headings spaced.2 are.1 (last second headings refl) in
+    let following : met (next ∷ rest) number ≡ [] = finds_after table name.end (next ∷ rest) number second headings spaced.2 are.1 (last second headings refl) in
     record {
       found = name;
       one = rw (meet-both number name (omega (arith, are.0.end)) (omega (arith, are.0.column))) (ap (λ ns. name ∷ ns) following);
@@ -128,11 +128,11 @@ left_over table names headings number i left spaced are point is =
       spaced = skipped.spaced;
       are = subst (AreHeadings table skipped.rest) (sym is) skipped.are;
       met_are = skipped.met_are;
-      following = λ heading others e. first_behind heading others (sym is ∙ e);
+      following = λ heading others e. first_after heading others (sym is ∙ e);
     }
   where
-    first_behind : (heading : Heading) (others : List Heading) → drop i headings ≡ heading ∷ others → number.at.column < heading.end
-    first_behind heading others e =
+    first_after : (heading : Heading) (others : List Heading) → drop i headings ≡ heading ∷ others → number.at.column < heading.end
+    first_after heading others e =
         let long : 0 < length headings - i = omega (arith, length-drop i headings, ap length e) in
         let here : heading ≡ get_or headings i heading = sym (ap (λ (hs : List Heading). get_or hs 0 heading) e) ∙ get_or-drop i headings 0 heading ∙ ap (λ k. get_or headings k heading) (add-zero i) in
         let h = point.1 i heading (omega arith) (omega arith) in
@@ -144,9 +144,9 @@ left_over table names headings number i left spaced are point is =
 pub met_none : (table : List (List ℕ)) (names : List Word) (number : Word) (left : List Heading) → AreLeft table names number left → left ≡ [] → met names number ≡ []
 met_none table names number left are none = are.met_are ∙ finds_none table are.rest number (subst (AreHeadings table are.rest) none are.are)
 
-pub met_behind : (table : List (List ℕ)) (names : List Word) (number : Word) (left : List Heading) (heading : Heading) (others : List Heading) → AreLeft table names number left → left ≡ heading ∷ others → number.end ≤ heading.column → met names number ≡ []
-met_behind table names number left heading others are is h =
-    are.met_are ∙ finds_behind table are.column are.rest number heading others are.spaced (subst (AreHeadings table are.rest) is are.are) h
+pub met_after : (table : List (List ℕ)) (names : List Word) (number : Word) (left : List Heading) (heading : Heading) (others : List Heading) → AreLeft table names number left → left ≡ heading ∷ others → number.end ≤ heading.column → met names number ≡ []
+met_after table names number left heading others are is h =
+    are.met_are ∙ finds_after table are.column are.rest number heading others are.spaced (subst (AreHeadings table are.rest) is are.are) h
 
 pub met_two : (table : List (List ℕ)) (names : List Word) (number : Word) (left : List Heading) (heading : Heading) (others : List Heading) → AreLeft table names number left → left ≡ heading ∷ others → begin_before others number.end ≡ true → 1 < length (met names number)
 met_two table names number left heading [] are is h = absurd (cc)
@@ -156,8 +156,8 @@ met_two table names number left heading (second ∷ others) are is h =
 
 pub met_one : (table : List (List ℕ)) (names : List Word) (number : Word) (left : List Heading) (heading : Heading) (others : List Heading) → AreLeft table names number left → left ≡ heading ∷ others → heading.column < number.end → begin_before others number.end ≡ false → MeetsOne table names number heading
 met_one table names number left heading others are is h last =
-    let one = finds_one table are.column are.rest number heading others are.spaced (subst (AreHeadings table are.rest) is are.are) (are.following heading others is) h (λ second more e. second_behind second more (subst (λ (hs : List Heading). begin_before hs number.end ≡ false) e last)) in
+    let one = finds_one table are.column are.rest number heading others are.spaced (subst (AreHeadings table are.rest) is are.are) (are.following heading others is) h (λ second more e. second_after second more (subst (λ (hs : List Heading). begin_before hs number.end ≡ false) e last)) in
     record { found = one.found; one = are.met_are ∙ one.one; is = one.is }
   where
-    second_behind : (second : Heading) (more : List Heading) → begin_before (second ∷ more) number.end ≡ false → number.end ≤ second.column
-    second_behind second more h = grind (arith, nat_tests)
+    second_after : (second : Heading) (more : List Heading) → begin_before (second ∷ more) number.end ≡ false → number.end ≤ second.column
+    second_after second more h = grind (arith, nat_tests)

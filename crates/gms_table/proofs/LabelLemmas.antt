@@ -8,7 +8,7 @@ use Rattle.gms_lines.proofs.LineLemmas.{true_or_false}
 use Rattle.gms_table.specs.Words.{parted}
 use Rattle.gms_table.specs.WordLabels.{label_of_text, with_label, labels_among, all_entered, AreLabelNumbers, IsPrefix}
 use Rattle.gms_lines.specs.SplitFields.{is_dot, field_bytes}
-use Rattle.gms_table.proofs.FieldLemmas.{stretches_behind, parted-stretch}
+use Rattle.gms_table.proofs.FieldLemmas.{fields_after, parted-field}
 
 -- entering some labels and then others
 pub all_entered-append : (table texts others : List (List ℕ)) → all_entered table (texts ++ others) ≡ all_entered (all_entered table texts) others
@@ -81,22 +81,22 @@ labels_from rest = labels_among (parted is_dot rest)
 abbrev pub label_length : List ℕ → ℕ
 label_length rest = field_bytes is_dot rest
 
-labels_from-stretch : (rest : List ℕ) → labels_from rest ≡ with_label (label_of_text (take (label_length rest) rest)) (labels_among (stretches_behind is_dot (drop (label_length rest) rest)))
-labels_from-stretch rest = ap labels_among (parted-stretch is_dot rest)
+labels_from-field : (rest : List ℕ) → labels_from rest ≡ with_label (label_of_text (take (label_length rest) rest)) (labels_among (fields_after is_dot (drop (label_length rest) rest)))
+labels_from-field rest = ap labels_among (parted-field is_dot rest)
 
 -- a field that is no label
 pub labels_from-none : (done : List (List ℕ)) (rest : List ℕ) → label_of_text (take (label_length rest) rest) ≡ None → joined done (labels_from rest) ≡ None
-labels_from-none done rest h = ap (joined done) (labels_from-stretch rest ∙ ap (λ o. with_label o (labels_among (stretches_behind is_dot (drop (label_length rest) rest)))) h)
+labels_from-none done rest h = ap (joined done) (labels_from-field rest ∙ ap (λ o. with_label o (labels_among (fields_after is_dot (drop (label_length rest) rest)))) h)
 
 -- a label with nothing after it
 pub labels_from-last : (done : List (List ℕ)) (rest label : List ℕ) → label_of_text (take (label_length rest) rest) ≡ Some label → drop (label_length rest) rest ≡ [] → joined done (labels_from rest) ≡ Some (done ++ label ∷ [])
 labels_from-last done rest label h last =
-    ap (joined done) (labels_from-stretch rest ∙ ap (λ o. with_label o (labels_among (stretches_behind is_dot (drop (label_length rest) rest)))) h ∙ ap (λ t. with_label (Some label) (labels_among (stretches_behind is_dot t))) last)
+    ap (joined done) (labels_from-field rest ∙ ap (λ o. with_label o (labels_among (fields_after is_dot (drop (label_length rest) rest)))) h ∙ ap (λ t. with_label (Some label) (labels_among (fields_after is_dot t))) last)
 
 -- a label with more after it
 pub labels_from-more : (done : List (List ℕ)) (rest label : List ℕ) (b : ℕ) (others : List ℕ) → label_of_text (take (label_length rest) rest) ≡ Some label → drop (label_length rest) rest ≡ b ∷ others → joined done (labels_from rest) ≡ joined (done ++ label ∷ []) (labels_from others)
 labels_from-more done rest label b others h more =
-    ap (joined done) (labels_from-stretch rest ∙ ap (λ o. with_label o (labels_among (stretches_behind is_dot (drop (label_length rest) rest)))) h ∙ ap (λ t. with_label (Some label) (labels_among (stretches_behind is_dot t))) more) ∙ joined-with done label (labels_from others)
+    ap (joined done) (labels_from-field rest ∙ ap (λ o. with_label o (labels_among (fields_after is_dot (drop (label_length rest) rest)))) h ∙ ap (λ t. with_label (Some label) (labels_among (fields_after is_dot t))) more) ∙ joined-with done label (labels_from others)
 
 -- ---- numbers of labels
 
@@ -123,28 +123,28 @@ nothing [] short = refl
 nothing (x ∷ xs) short = absurd (omega arith)
 
 -- A text without its first element.
-record Behind (xs : List ℕ) : Type 0 where
+record After (xs : List ℕ) : Type 0 where
   first : ℕ
   split : xs ≡ first ∷ take (length xs - 1) (drop 1 xs)
 
-after_first : (xs : List ℕ) → 1 ≤ length xs → Behind xs
+after_first : (xs : List ℕ) → 1 ≤ length xs → After xs
 after_first [] some = absurd (omega arith)
 after_first (x ∷ xs) some = record { first = x; split = ap (λ l. x ∷ l) (sym (take_rest (x ∷ xs) 1)) }
 
-module _ (done : List (List ℕ)) (rest : List ℕ) (n : ℕ) (prefix back : List ℕ) (n_is : n ≡ label_length rest) (front_is : prefix ≡ take n rest) (back_is : back ≡ drop n rest) where
-  front_here : label_of_text (take (label_length rest) rest) ≡ label_of_text prefix
-  front_here = ap (λ k. label_of_text (take k rest)) (sym n_is) ∙ ap label_of_text (sym front_is)
+module _ (done : List (List ℕ)) (rest : List ℕ) (n : ℕ) (prefix back : List ℕ) (n_is : n ≡ label_length rest) (prefix_is : prefix ≡ take n rest) (back_is : back ≡ drop n rest) where
+  prefix_here : label_of_text (take (label_length rest) rest) ≡ label_of_text prefix
+  prefix_here = ap (λ k. label_of_text (take k rest)) (sym n_is) ∙ ap label_of_text (sym prefix_is)
 
   back_here : drop (label_length rest) rest ≡ back
   back_here = ap (λ k. drop k rest) (sym n_is) ∙ sym back_is
 
   pub labels-none : None ≡ label_of_text prefix → joined done (labels_from rest) ≡ None
-  labels-none h = labels_from-none done rest (front_here ∙ sym h)
+  labels-none h = labels_from-none done rest (prefix_here ∙ sym h)
 
   pub labels-last : (label : List ℕ) → Some label ≡ label_of_text prefix → length back < 1 → joined done (labels_from rest) ≡ Some (done ++ label ∷ [])
-  labels-last label h short = labels_from-last done rest label (front_here ∙ sym h) (back_here ∙ nothing back short)
+  labels-last label h short = labels_from-last done rest label (prefix_here ∙ sym h) (back_here ∙ nothing back short)
 
   pub labels-more : (label : List ℕ) → Some label ≡ label_of_text prefix → 1 ≤ length back → joined done (labels_from rest) ≡ joined (done ++ label ∷ []) (labels_from (take (length back - 1) (drop 1 back)))
   labels-more label h some =
       let parts = after_first back some in
-      labels_from-more done rest label parts.first (take (length back - 1) (drop 1 back)) (front_here ∙ sym h) (back_here ∙ parts.split)
+      labels_from-more done rest label parts.first (take (length back - 1) (drop 1 back)) (prefix_here ∙ sym h) (back_here ∙ parts.split)

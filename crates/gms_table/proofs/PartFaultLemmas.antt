@@ -28,14 +28,14 @@ some_code Labels = omega arith
 module _ (limit : ℕ) (labels : List (List ℕ)) where
   -- the least error at the part after sound ones is the first fault
   first_fault : (before : List TablePart) (part : TablePart) (fault : TableFault) (error : TableError) → ArePartsFaultless limit labels [] before → fault.at ≡ place_of_part part → fault.error ≡ error → IsPartFault limit labels before part error → ((other : TableError) → IsPartFault limit labels before part other → table_error_code error ≤ table_error_code other) → IsFirstPartFault limit labels (before ++ part ∷ []) fault
-  first_fault before part fault error sound at is stands least = record {
+  first_fault before part fault error sound at is occurs least = record {
     before = before;
     part = part;
     following = [];
     parts_are = refl;
     sound = sound;
     at = at;
-    stands = subst (IsPartFault limit labels before part) (sym is) stands;
+    occurs = subst (IsPartFault limit labels before part) (sym is) occurs;
     least = λ other h. subst (λ e. table_error_code e ≤ table_error_code other) (sym is) (least other h);
   }
 

@@ -67,6 +67,6 @@ module _ (limit : ℕ) (labels : List (List ℕ)) where
     parts_are = ap (λ ps. ps ++ others) first.parts_are ∙ append_assoc first.before (first.part ∷ first.following) others;
     sound = first.sound;
     at = first.at;
-    stands = first.stands;
+    occurs = first.occurs;
     least = first.least;
   }

@@ -140,7 +140,7 @@ module _ (limit : ℕ) (labels : List (List ℕ)) where
     pub parts_are : parts ≡ before ++ part ∷ following
     pub sound : ArePartsFaultless [] before
     pub at : fault.at ≡ place_of_part part
-    pub stands : IsPartFault before part fault.error
+    pub occurs : IsPartFault before part fault.error
     pub least : (other : TableError) → IsPartFault before part other → table_error_code fault.error ≤ table_error_code other
 
 -- ---- the whole

@@ -15,8 +15,8 @@ pub record Word : Type 0 where
 -- the fields after the first of a text, given those of what follows the byte that splits it; none
 -- at the end of the text
 abbrev pub others_by : (List ℕ → List (List ℕ)) → List ℕ → List (List ℕ)
-others_by stretches [] = []
-others_by stretches (b ∷ rest) = stretches rest
+others_by fields [] = []
+others_by fields (b ∷ rest) = fields rest
 
 -- the first fields of a text, at most `most` of them
 abbrev pub first_fields : (ℕ → Bool) → ℕ → List ℕ → List (List ℕ)

@@ -46,7 +46,7 @@ pub(crate) fn read_headings(
 }
 
 /// The headings that end after a column.
-fn ending_behind(headings: &[Heading], column: u32) -> &[Heading]
+fn ending_after(headings: &[Heading], column: u32) -> &[Heading]
     ensures { (table : List (List ℕ)) (names : List words.Word) (number : words.Word) →
         AreHeadings table names headings.now → AreSpaced names → number.at.column ≡ column →
         AreLeft table names number result.now }
@@ -72,7 +72,7 @@ pub(crate) fn heading_of<'a>(
     ensures { (table : List (List ℕ)) (names : List words.Word) → AreHeadings table names headings.now → AreSpaced names
         → Finds table names (seen word.entry) result }
 {
-    let left = ending_behind(headings, word.at.column);
+    let left = ending_after(headings, word.at.column);
     let Some((heading, others)) = left.split_first() else {
         return Err(TableError::NoColumn);
     };

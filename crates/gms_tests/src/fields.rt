@@ -105,13 +105,13 @@ fn values(alloc: Global) -> Result<Vec<Pair>, AllocError> {
 }
 
 /// Whether the sum and the difference of two values are those of the rules.
-fn sums_are_due(x: &Pair, y: &Pair) -> bool {
+fn sums_are_expected(x: &Pair, y: &Pair) -> bool {
     let minus = (y.0.wrapping_neg(), y.1, y.2.neg());
     answer(x.2.add(y.2)) == summed(x, y) && answer(x.2.sub(y.2)) == summed(x, &minus)
 }
 
 /// Whether the product and the order of two values are those of the rules.
-fn products_are_due(x: &Pair, y: &Pair) -> bool {
+fn products_are_expected(x: &Pair, y: &Pair) -> bool {
     let (a, b, c, d) = (x.0, x.1, y.0, y.1);
     let product = reduced(a.wrapping_mul(c), b.wrapping_mul(d));
     let order = a.wrapping_mul(d).cmp(&c.wrapping_mul(b));
@@ -119,7 +119,7 @@ fn products_are_due(x: &Pair, y: &Pair) -> bool {
 }
 
 /// Whether the quotient of two values is that of the rules, where the second is not 0.
-fn quotient_is_due(x: &Pair, y: &Pair) -> bool {
+fn quotient_is_expected(x: &Pair, y: &Pair) -> bool {
     let (a, b, c, d) = (x.0, x.1, y.0, y.1);
     let top = a.wrapping_mul(d).wrapping_mul(c.signum());
     let below = b.wrapping_mul(c.wrapping_abs());
@@ -129,8 +129,8 @@ fn quotient_is_due(x: &Pair, y: &Pair) -> bool {
 /// Compares the answers of the calls on a value and each of these with those of the rules.
 fn check_row(rt: &impl Abort, x: &Pair, values: &[Pair]) {
     for y in values {
-        let are_due = sums_are_due(x, y) && products_are_due(x, y) && quotient_is_due(x, y);
-        assert!(rt; are_due, "{}/{} and {}/{}", x.0, x.1, y.0, y.1);
+        let are_expected = sums_are_expected(x, y) && products_are_expected(x, y) && quotient_is_expected(x, y);
+        assert!(rt; are_expected, "{}/{} and {}/{}", x.0, x.1, y.0, y.1);
     }
 }
 
@@ -145,7 +145,7 @@ fn tiny_answers_by_the_rules(rt: HostRuntime) -> Result<(), Fail> {
 }
 
 /// Whether each call of a sign or an order answers as expected, on numbers that fit every field.
-fn signs_are_due<F: ExactField>(half: F, seven: F) -> bool {
+fn signs_are_expected<F: ExactField>(half: F, seven: F) -> bool {
     half.parts() == (-1, 2)
         && half.neg().parts() == (1, 2)
         && (half.sign(), F::zero().sign(), seven.sign()) == (-1, 0, 1)
@@ -155,7 +155,7 @@ fn signs_are_due<F: ExactField>(half: F, seven: F) -> bool {
 }
 
 /// Whether each call of arithmetic answers as expected, on numbers that fit every field.
-fn steps_are_due<F: ExactField>(half: F, seven: F) -> Result<bool, Limit> {
+fn steps_are_expected<F: ExactField>(half: F, seven: F) -> Result<bool, Limit> {
     let sum = half.add(F::one())?;
     let difference = half.sub(seven)?;
     let product = half.mul(seven)?;
@@ -170,7 +170,7 @@ fn steps_are_due<F: ExactField>(half: F, seven: F) -> Result<bool, Limit> {
 }
 
 /// Whether each call that rounds answers as expected for -7/2.
-fn wholes_are_due<F: ExactField>(fraction: F) -> bool {
+fn wholes_are_expected<F: ExactField>(fraction: F) -> bool {
     fraction.trunc().parts() == (-3, 1)
         && fraction.floor().parts() == (-4, 1)
         && fraction.ceil().parts() == (-3, 1)
@@ -178,19 +178,19 @@ fn wholes_are_due<F: ExactField>(fraction: F) -> bool {
 }
 
 /// Whether each call answers as expected, on numbers that fit every field.
-fn calls_are_due<F: ExactField>() -> Result<bool, Limit> {
+fn calls_are_expected<F: ExactField>() -> Result<bool, Limit> {
     let half = F::from_parts(-3, 6)?;
     let seven = F::from_int(7);
     let fraction = half.mul(seven)?;
-    let steps = steps_are_due(half, seven)?;
-    Ok(steps && signs_are_due(half, seven) && wholes_are_due(fraction))
+    let steps = steps_are_expected(half, seven)?;
+    Ok(steps && signs_are_expected(half, seven) && wholes_are_expected(fraction))
 }
 
 #[test]
 fn half_and_tiny_answer_each_call(rt: HostRuntime) {
     assert!(rt; Half::limit() == 9223372036854775807 && Tiny::limit() == 127);
-    assert!(rt; calls_are_due::<Half>() == Ok(true));
-    assert!(rt; calls_are_due::<Tiny>() == Ok(true));
+    assert!(rt; calls_are_expected::<Half>() == Ok(true));
+    assert!(rt; calls_are_expected::<Tiny>() == Ok(true));
 }
 
 /// Whether products next to the limit of `Half` are as expected.

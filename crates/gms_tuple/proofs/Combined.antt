@@ -161,7 +161,7 @@ ordered-drop (suc n) (x ∷ xs) ordered = ordered-drop n xs (rest-ordered x xs o
 
 -- How far two lists are merged: what is made, followed by what the operation makes of the rest, is
 -- what it makes of the whole.
-pub record IsWalked (op : Operation) (first second made : List (List ℕ)) (i j : ℕ) : Type 0 where
+pub record IsTraversed (op : Operation) (first second made : List (List ℕ)) (i j : ℕ) : Type 0 where
   pub first_in : i ≤ length first
   pub second_in : j ≤ length second
   pub whole : made ++ combine op (drop i first) (drop j second) ≡ combine op first second
@@ -171,8 +171,8 @@ push-if true made rest next = sym (append_assoc made (next ∷ []) rest)
 push-if false made rest next = refl
 
 module _ (op : Operation) (first second made : List (List ℕ)) (i j : ℕ) (next : List ℕ) (a b : Bool) (turned : IsTurn (drop i first) (drop j second) a b next) where
-  pub IsWalked-more : IsOrdered first → i + one_if a ≤ length first → j + one_if b ≤ length second → IsWalked op first second made i j → IsWalked op first second (cond (takes op a b) (made ++ next ∷ []) made) (i + one_if a) (j + one_if b)
-  IsWalked-more ordered first_in second_in traversed =
+  pub IsTraversed-more : IsOrdered first → i + one_if a ≤ length first → j + one_if b ≤ length second → IsTraversed op first second made i j → IsTraversed op first second (cond (takes op a b) (made ++ next ∷ []) made) (i + one_if a) (j + one_if b)
+  IsTraversed-more ordered first_in second_in traversed =
       let xs' = drop (one_if a) (drop i first) in
       let ys' = drop (one_if b) (drop j second) in
       let step : combine op (drop i first) (drop j second) ≡ cond (takes op a b) (next ∷ combine op xs' ys') (combine op xs' ys') = combine-next op next a b (drop i first) xs' (drop j second) ys' turned.first turned.second (ordered-drop i first ordered) in
@@ -182,8 +182,8 @@ module _ (op : Operation) (first second made : List (List ℕ)) (i j : ℕ) (nex
         whole = rw (sym (drop-drop (one_if a) i first), sym (drop-drop (one_if b) j second)) (sym (push-if (takes op a b) made (combine op xs' ys') next) ∙ ap (λ rest. made ++ rest) (sym step) ∙ traversed.whole);
       }
 
-pub IsWalked-all : (op : Operation) (first second made : List (List ℕ)) (i j : ℕ) → length first ≤ i → length second ≤ j → IsWalked op first second made i j → made ≡ combine op first second
-IsWalked-all op first second made i j l k traversed =
+pub IsTraversed-all : (op : Operation) (first second made : List (List ℕ)) (i j : ℕ) → length first ≤ i → length second ≤ j → IsTraversed op first second made i j → made ≡ combine op first second
+IsTraversed-all op first second made i j l k traversed =
     sym (append-nil made) ∙ ap (λ rest. made ++ rest) (sym (rw (drop_all i first l, drop_all j second k) (combine-none op))) ∙ traversed.whole
 
 pub turn-within : (xs ys : List (List ℕ)) → (one_if (turn xs ys).0 ≤ length xs) × (one_if (turn xs ys).1 ≤ length ys)
@@ -197,8 +197,8 @@ turn-within (x ∷ xs) (y ∷ ys) = (at-most (not (is_gt (tuple_cmp x y))) (leng
     at-most false n = omega arith
 
 -- one turn of the loop
-pub IsWalked-turn : (op : Operation) (first second made : List (List ℕ)) (i j : ℕ) (turns : Bool × Bool) (next : List ℕ) (made' : List (List ℕ)) (i' j' : ℕ) → IsOrdered first → IsOrdered second → IsWalked op first second made i j → 0 < length (drop i first) + length (drop j second) → turns ≡ turn (drop i first) (drop j second) → next ≡ cond turns.0 (get_or (drop i first) 0 []) (get_or (drop j second) 0 []) → made' ≡ cond (takes op turns.0 turns.1) (made ++ next ∷ []) made → i' ≡ i + one_if turns.0 → j' ≡ j + one_if turns.1 → IsWalked op first second made' i' j'
-IsWalked-turn op first second made i j turns next made' i' j' ordered others traversed some turned is pushed up across =
+pub IsTraversed-turn : (op : Operation) (first second made : List (List ℕ)) (i j : ℕ) (turns : Bool × Bool) (next : List ℕ) (made' : List (List ℕ)) (i' j' : ℕ) → IsOrdered first → IsOrdered second → IsTraversed op first second made i j → 0 < length (drop i first) + length (drop j second) → turns ≡ turn (drop i first) (drop j second) → next ≡ cond turns.0 (get_or (drop i first) 0 []) (get_or (drop j second) 0 []) → made' ≡ cond (takes op turns.0 turns.1) (made ++ next ∷ []) made → i' ≡ i + one_if turns.0 → j' ≡ j + one_if turns.1 → IsTraversed op first second made' i' j'
+IsTraversed-turn op first second made i j turns next made' i' j' ordered others traversed some turned is pushed up across =
     let xs = drop i first in
     let ys = drop j second in
     let within = turn-within xs ys in
@@ -209,7 +209,7 @@ IsWalked-turn op first second made i j turns next made' i' j' ordered others tra
     let k = traversed.second_in in
     let a : i + one_if (turn xs ys).0 ≤ length first = let w = within.0 in omega arith in
     let b : j + one_if (turn xs ys).1 ≤ length second = let w = within.1 in omega arith in
-    rw (pushed, up, across, is, turned) (IsWalked-more op first second made i j (cond (turn xs ys).0 (get_or xs 0 []) (get_or ys 0 [])) (turn xs ys).0 (turn xs ys).1 t ordered a b traversed)
+    rw (pushed, up, across, is, turned) (IsTraversed-more op first second made i j (cond (turn xs ys).0 (get_or xs 0 []) (get_or ys 0 [])) (turn xs ys).0 (turn xs ys).1 t ordered a b traversed)
 
 -- where the next tuple is not the first of the first list, the second has some
 pub turn-other : (xs ys : List (List ℕ)) → 0 < length xs + length ys → (turn xs ys).0 ≡ false → 0 < length ys

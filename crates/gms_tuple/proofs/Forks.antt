@@ -256,8 +256,8 @@ pub found-at : (xs : List (List ℕ)) (t member : List ℕ) (n : ℕ) → IsOrde
 found-at xs t member n ordered is at same =
     let e : n ≡ count_before xs t = is ∙ count-within xs t in
     let within : count_before xs t < length xs = subst (λ n. n < length xs) e (slice_get_within xs n member at) in
-    let stands : get_or xs (count_before xs t) [] ≡ member = get_or_from_slice_get xs (count_before xs t) member [] (subst (λ n. slice_get xs n ≡ Some member) e at) in
-    place_of-counted xs t ordered within (ap (λ m. same_tuple m t) stands ∙ same) ∙ ap Some (sym e)
+    let occurs : get_or xs (count_before xs t) [] ≡ member = get_or_from_slice_get xs (count_before xs t) member [] (subst (λ n. slice_get xs n ≡ Some member) e at) in
+    place_of-counted xs t ordered within (ap (λ m. same_tuple m t) occurs ∙ same) ∙ ap Some (sym e)
 
 pub absent-at : (xs : List (List ℕ)) (t : List ℕ) (n : ℕ) → IsOrdered xs → n ≡ count_by (is_within false t) xs → (n < length xs → (member : List ℕ) → slice_get xs n ≡ Some member → same_tuple member t ≡ false) → (has xs t ≡ false) × (n ≡ count_before xs t)
 absent-at xs t n ordered is other =

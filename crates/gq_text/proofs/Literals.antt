@@ -22,8 +22,8 @@ ends_in_zero n m k e =
     let f : n ≡ 10 * (m * 10 ^ k) = e ∙ ap (λ u. m * u) (pow-succ' 10 k) ∙ omega arith in
     omega arith
 
-not_zero_behind : (n : ℕ) → 0 < n → HasNoTrailingZero n → n % 10 ≢ 0
-not_zero_behind n some h = elim h [ inl none ↦ absurd (omega arith) | inr last ↦ last ]
+not_zero_after : (n : ℕ) → 0 < n → HasNoTrailingZero n → n % 10 ≢ 0
+not_zero_after n some h = elim h [ inl none ↦ absurd (omega arith) | inr last ↦ last ]
 
 -- digits that end in no 0 are known with their power of ten
 pub same_shortest : (m n i j : ℕ) → m % 10 ≢ 0 → n % 10 ≢ 0 → m * 10 ^ i ≡ n * 10 ^ j → (m ≡ n) × (i ≡ j)
@@ -88,7 +88,7 @@ whole_fits limit m u w k some h e f =
 pub fraction_fits : (limit m u w k : ℕ) → 0 < m → HasNoTrailingZero m → w ≡ u + suc k → FitsLiteral limit (ratio (pos (m * 10 ^ u)) (10 ^ w)) → (m ≤ limit) × (10 ^ suc k ≤ limit)
 fraction_fits limit m u w k some h e f =
     let n = f.m in let j = f.e in
-    let last = not_zero_behind m some h in
+    let last = not_zero_after m some h in
     let is_fraction = fraction_is m u w (suc k) e in
     elim f.within [
       | inl product ↦
@@ -96,7 +96,7 @@ fraction_fits limit m u w k some h e f =
           absurd (last (ends_in_zero m (n * 10 ^ j) k (omega arith)))
       | inr over ↦
           let same : m * 10 ^ j ≡ n * 10 ^ suc k = nat_cross m (10 ^ suc k) n (10 ^ j) (tens_above (suc k)) (tens_above j) (sym is_fraction ∙ over.0) in
-          let n_last = not_zero_behind n (some_digits m n j (suc k) some same) f.shortest in
+          let n_last = not_zero_after n (some_digits m n j (suc k) some same) f.shortest in
           let parts = same_shortest m n j (suc k) last n_last same in
           (subst (λ a. a ≤ limit) (sym parts.0) over.1, subst (λ a. 10 ^ a ≤ limit) parts.1 over.2)
     ]

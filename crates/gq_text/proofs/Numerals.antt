@@ -21,9 +21,9 @@ pub AreDigits-append : (xs ys : List ℕ) → AreDigits xs → AreDigits ys → 
 AreDigits-append [] ys h k = k
 AreDigits-append (x ∷ xs) ys h k = (h.0, h.1, AreDigits-append xs ys h.2 k)
 
-pub AreDigits_front : (xs ys : List ℕ) → AreDigits (xs ++ ys) → AreDigits xs
-AreDigits_front [] ys h = tt
-AreDigits_front (x ∷ xs) ys h = (h.0, h.1, AreDigits_front xs ys h.2)
+pub AreDigits_prefix : (xs ys : List ℕ) → AreDigits (xs ++ ys) → AreDigits xs
+AreDigits_prefix [] ys h = tt
+AreDigits_prefix (x ∷ xs) ys h = (h.0, h.1, AreDigits_prefix xs ys h.2)
 
 -- the number that n digits spell is less than 10^n
 pub spelled-lt : (xs : List ℕ) → AreDigits xs → spelled xs < 10 ^ length xs

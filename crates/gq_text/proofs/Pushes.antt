@@ -59,8 +59,8 @@ tenth_small n (suc k) some small =
     subst (λ j. n / 10 < 10 ^ j) less ((div-lt_iff_lt-mul {k = 10} {x = n} {y = 10 ^ k} (omega arith)).1 (omega arith))
 
 -- the digits of a tenth, and the last digit after them
-pub digit_behind : (old now : List ℕ) (n places : ℕ) → 0 < places → AppendsDigits old now (n / 10) (places - 1) → AppendsDigits old (now ++ (48 + n % 10) ∷ []) n places
-digit_behind old now n places some tenth =
+pub digit_after : (old now : List ℕ) (n places : ℕ) → 0 < places → AppendsDigits old now (n / 10) (places - 1) → AppendsDigits old (now ++ (48 + n % 10) ∷ []) n places
+digit_after old now n places some tenth =
     let last : n % 10 < 10 = mod-lt n (omega arith) in
     let spread = div-add-mod' n 10 in
     record {

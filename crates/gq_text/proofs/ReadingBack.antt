@@ -14,7 +14,7 @@ use Rattle.gq_text.specs.Numeral.{AreDigits, spelled, IsNumeral}
 use Rattle.gq_text.specs.InnerParts.{BeginsNoDigit, BeginsOther, SplitsDigits, SplitsSign}
 use Rattle.gq_text.specs.ExactText.{whole_text, exact_text}
 use Rattle.gq_text.proofs.Exacts.{numeral_is, fitting, either}
-use Rattle.gq_text.proofs.Splits.{one_split, all_in_front}
+use Rattle.gq_text.proofs.Splits.{one_split, all_in_prefix}
 use Rattle.gq_field.specs.Values.{signed}
 
 -- if a value exists exactly when a fact holds, and the fact holds, the value exists
@@ -28,7 +28,7 @@ some-iff (Some m) P v h p = h.1
 pub digits_back : (text digits rest : List ℕ) (o : Option ℕ) (n : ℕ) → n < 2 ^ 128 → text ≡ decimal n → SplitsDigits text digits rest → SomeIff o (0 * 10 ^ length digits + spelled digits < 2 ^ 128) (0 * 10 ^ length digits + spelled digits) → IsSomeAnd o (λ m. m ≡ n)
 digits_back text digits rest o n small is split found =
     let m = numeral_is n (omega (arith, small)) in
-    let same = all_in_front text digits rest split (subst AreDigits (sym is) m.digits) in
+    let same = all_in_prefix text digits rest split (subst AreDigits (sym is) m.digits) in
     let spells : spelled digits ≡ n = ap spelled (same.0 ∙ is) ∙ m.spells in
     let value : 0 * 10 ^ length digits + spelled digits ≡ n = omega (arith, spells) in
     subst (λ v. IsSomeAnd o (λ k. k ≡ v)) value (some-iff o (0 * 10 ^ length digits + spelled digits < 2 ^ 128) (0 * 10 ^ length digits + spelled digits) found (omega (arith, value, small)))
@@ -36,7 +36,7 @@ digits_back text digits rest o n small is split found =
 -- and nothing follows them
 pub digits_alone : (text digits rest : List ℕ) (n : ℕ) → n < 2 ^ 128 → text ≡ decimal n → SplitsDigits text digits rest → rest ≡ []
 digits_alone text digits rest n small is split =
-    (all_in_front text digits rest split (subst AreDigits (sym is) (numeral_is n (omega (arith, small))).digits)).1
+    (all_in_prefix text digits rest split (subst AreDigits (sym is) (numeral_is n (omega (arith, small))).digits)).1
 
 -- ---- the parts of an exact text
 

@@ -18,12 +18,12 @@ read_literal limit value text rest d r p some power a = read_as limit value text
 
 -- without a digit
 pub no_digits : (text before following rest : List ℕ) (x : Number) → Divides text before following rest → length before ≡ 0 → length following ≡ 0 → ¬ MeansNumber text x
-no_digits text before following rest x p none_before none_behind h =
+no_digits text before following rest x p none_before none_after h =
     let d = h.0 in
     let same = one_division text before following rest d.before d.following h.1.power p (Divides-from text d h.1) in
     let some = h.1.some in
     let before_is : length before ≡ length d.before = ap length same.same_before in
-    let behind_is : length following ≡ length d.following = ap length same.same_behind in
+    let after_is : length following ≡ length d.following = ap length same.same_after in
     omega arith
 
 -- with something after the digits that is no exponent

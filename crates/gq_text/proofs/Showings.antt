@@ -79,8 +79,8 @@ IsFixed_from before now decimals' d whole' fraction k n h l s small e layout =
       following = decimals';
       before_is = subst (λ w. IsNumeral w before) (sym parts.0) n;
       after_digits = h;
-      behind_places = l;
-      behind_spells = s ∙ sym parts.1;
+      after_places = l;
+      after_spells = s ∙ sym parts.1;
       text_is = layout;
     }
 

@@ -57,30 +57,30 @@ BeginsNoDigit-tail tail following rest t stops =
 BeginsOther-not : (byte : ℕ) (text more : List ℕ) → BeginsOther byte text → ¬ (text ≡ byte ∷ more)
 BeginsOther-not byte text more h e = let no : BeginsOther byte (byte ∷ more) = subst (BeginsOther byte) e h in no refl
 
-one_tail : (tail following rest behind' rest' : List ℕ) → AreDigits following → AreDigits behind' → BeginsNoDigit rest → BeginsNoDigit rest' → IsTail tail following rest → IsTail tail behind' rest' → (following ≡ behind') × (rest ≡ rest')
-one_tail tail following rest behind' rest' h k m n t u =
+one_tail : (tail following rest after' rest' : List ℕ) → AreDigits following → AreDigits after' → BeginsNoDigit rest → BeginsNoDigit rest' → IsTail tail following rest → IsTail tail after' rest' → (following ≡ after') × (rest ≡ rest')
+one_tail tail following rest after' rest' h k m n t u =
     elim t [
       | inl dotted ↦ elim u [
-        | inl dotted' ↦ let more : following ++ rest ≡ behind' ++ rest' = cc (sym dotted ∙ dotted') in one_split following behind' rest rest' h k m n more
+        | inl dotted' ↦ let more : following ++ rest ≡ after' ++ rest' = cc (sym dotted ∙ dotted') in one_split following after' rest rest' h k m n more
         | inr plain' ↦ absurd (BeginsOther-not 46 rest' (following ++ rest) plain'.2 (sym plain'.1 ∙ dotted))
       ]
       | inr plain ↦ elim u [
-        | inl dotted' ↦ absurd (BeginsOther-not 46 rest (behind' ++ rest') plain.2 (sym plain.1 ∙ dotted'))
+        | inl dotted' ↦ absurd (BeginsOther-not 46 rest (after' ++ rest') plain.2 (sym plain.1 ∙ dotted'))
         | inr plain' ↦ (plain.0 ∙ sym plain'.0, sym plain.1 ∙ plain'.1)
       ]
     ]
 
-pub record SameParts (before following rest before' behind' rest' : List ℕ) : Type 0 where
+pub record SameParts (before following rest before' after' rest' : List ℕ) : Type 0 where
   pub same_before : before ≡ before'
-  pub same_behind : following ≡ behind'
+  pub same_after : following ≡ after'
   pub same_rest : rest ≡ rest'
 
 -- a text is divided in one way
-pub one_division : (text before following rest before' behind' rest' : List ℕ) → Divides text before following rest → Divides text before' behind' rest' → SameParts before following rest before' behind' rest'
-one_division text before following rest before' behind' rest' p q =
-    let prefix = one_split before before' p.tail q.tail p.before_digits q.before_digits (BeginsNoDigit-tail p.tail following rest p.tail_is p.all) (BeginsNoDigit-tail q.tail behind' rest' q.tail_is q.all) (sym p.text_is ∙ q.text_is) in
-    let back = one_tail p.tail following rest behind' rest' p.after_digits q.after_digits p.all q.all p.tail_is (subst (λ t. IsTail t behind' rest') (sym prefix.1) q.tail_is) in
-    record { same_before = prefix.0; same_behind = back.0; same_rest = back.1 }
+pub one_division : (text before following rest before' after' rest' : List ℕ) → Divides text before following rest → Divides text before' after' rest' → SameParts before following rest before' after' rest'
+one_division text before following rest before' after' rest' p q =
+    let prefix = one_split before before' p.tail q.tail p.before_digits q.before_digits (BeginsNoDigit-tail p.tail following rest p.tail_is p.all) (BeginsNoDigit-tail q.tail after' rest' q.tail_is q.all) (sym p.text_is ∙ q.text_is) in
+    let back = one_tail p.tail following rest after' rest' p.after_digits q.after_digits p.all q.all p.tail_is (subst (λ t. IsTail t after' rest') (sym prefix.1) q.tail_is) in
+    record { same_before = prefix.0; same_after = back.0; same_rest = back.1 }
 
 -- ---- exponents
 
@@ -94,9 +94,9 @@ HasValue : (text digits : List ℕ) → ℤ → Type 0
 HasValue text ds e =
     ((text ≡ ds) × (e ≡ pos (spelled ds))) ⊎ (((text ≡ 43 ∷ ds) × (e ≡ pos (spelled ds))) ⊎ ((text ≡ 45 ∷ ds) × (e ≡ neg_ℤ (pos (spelled ds)))))
 
-behind_minus : (text digits ds : List ℕ) (e : ℤ) → IsSomeDigits ds → HasValue text ds e → text ≡ 45 ∷ digits → (ds ≡ digits) × (e ≡ exponent_of true digits)
+after_minus : (text digits ds : List ℕ) (e : ℤ) → IsSomeDigits ds → HasValue text ds e → text ≡ 45 ∷ digits → (ds ≡ digits) × (e ≡ exponent_of true digits)
 unfolding HasValue
-behind_minus text digits ds e h s f =
+after_minus text digits ds e h s f =
     elim s [
       | inl bare ↦ absurd (no_sign 45 text digits ds (omega arith) h.0 f bare.0)
       | inr rest ↦ elim rest [
@@ -105,9 +105,9 @@ behind_minus text digits ds e h s f =
       ]
     ]
 
-behind_plus : (text digits ds : List ℕ) (e : ℤ) → IsSomeDigits ds → HasValue text ds e → text ≡ 43 ∷ digits → (ds ≡ digits) × (e ≡ exponent_of false digits)
+after_plus : (text digits ds : List ℕ) (e : ℤ) → IsSomeDigits ds → HasValue text ds e → text ≡ 43 ∷ digits → (ds ≡ digits) × (e ≡ exponent_of false digits)
 unfolding HasValue
-behind_plus text digits ds e h s f =
+after_plus text digits ds e h s f =
     elim s [
       | inl bare ↦ absurd (no_sign 43 text digits ds (omega arith) h.0 f bare.0)
       | inr rest ↦ elim rest [
@@ -141,9 +141,9 @@ unfolding HasValue HasDigitsAndValue
 signed_digits text digits negative e s p =
     let ds = s.0 in
     elim p [
-      | inl minus ↦ with_digits digits ds negative true e s.1 minus.1 (behind_minus text digits ds e s.1 s.2 minus.0)
+      | inl minus ↦ with_digits digits ds negative true e s.1 minus.1 (after_minus text digits ds e s.1 s.2 minus.0)
       | inr rest ↦ elim rest [
-        | inl plus ↦ with_digits digits ds negative false e s.1 plus.1 (behind_plus text digits ds e s.1 s.2 plus.0)
+        | inl plus ↦ with_digits digits ds negative false e s.1 plus.1 (after_plus text digits ds e s.1 s.2 plus.0)
         | inr none ↦ let same = with_none text ds e s.2 none.2 none.3 in
             with_digits digits ds negative false e s.1 none.1 (same.0 ∙ none.0, same.1 ∙ ap (exponent_of false) none.0)
       ]
@@ -184,8 +184,8 @@ one_exponent [] e f h k = h ∙ sym k
 one_exponent (mark ∷ text) e f h k = one_signed text e f h.1 k.1
 
 -- digits alone are all at the start
-pub all_in_front : (text digits rest : List ℕ) → SplitsDigits text digits rest → AreDigits text → (digits ≡ text) × (rest ≡ [])
-all_in_front text digits rest p h =
+pub all_in_prefix : (text digits rest : List ℕ) → SplitsDigits text digits rest → AreDigits text → (digits ≡ text) × (rest ≡ [])
+all_in_prefix text digits rest p h =
     let same = one_split digits text rest [] p.are_digits h p.all tt (sym p.text_is ∙ sym (append_nil text)) in (same.0, same.1)
 
 -- without digits, or with more after them, there is no exponent
@@ -194,7 +194,7 @@ no_exponent [] unsigned digits rest negative e some p q wrong h = absurd (omega 
 no_exponent (mark ∷ signed) unsigned digits rest negative e there p q wrong h =
     let following : take (length (mark ∷ signed) - 1) signed ≡ signed = let as_long : length (mark ∷ signed) - 1 ≡ length signed = omega arith in ap (λ n. take n signed) as_long ∙ take-length signed in
     let number = signed_digits signed unsigned negative e h.1 (subst (λ l. SplitsSign l negative unsigned) following p) in
-    let prefix = all_in_front unsigned digits rest q number.0.0 in
+    let prefix = all_in_prefix unsigned digits rest q number.0.0 in
     let some : 0 < length digits = subst (λ (l : List ℕ). 0 < length l) (sym prefix.0) number.0.1 in
     wrong some (ap length prefix.1)
 
@@ -234,7 +234,7 @@ unfolding decimal
 one_decimal text c d s t =
     let same = one_division text c.before c.following s.power d.before d.following t.power (Divides-from text c s) (Divides-from text d t) in
     let power : c.exponent ≡ d.exponent = one_exponent s.power c.exponent d.exponent s.power_is (subst (λ p. IsExponent p d.exponent) (sym same.same_rest) t.power_is) in
-    ap (λ b. decimal b c.following c.exponent) same.same_before ∙ ap (λ b. decimal d.before b c.exponent) same.same_behind ∙ ap (decimal d.before d.following) power
+    ap (λ b. decimal b c.following c.exponent) same.same_before ∙ ap (λ b. decimal d.before b c.exponent) same.same_after ∙ ap (decimal d.before d.following) power
 
 -- a text means one number
 pub one_number : (text : List ℕ) (x y : Number) → MeansNumber text x → MeansNumber text y → x ≡ y

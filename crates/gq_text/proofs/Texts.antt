@@ -39,10 +39,10 @@ fixed_text text before (b ∷ bs) h k some layout =
 pub fixed_means : (d n : ℕ) (text : List ℕ) → IsFixed d n text → MeansNumber text (ratio (pos n) (10 ^ d))
 fixed_means d n text f =
     let split = div-add-mod' n (10 ^ d) in
-    let number : spelled (f.before ++ f.following) ≡ n = spelled-append f.before f.following ∙ ap₂ (λ a b. a * 10 ^ length f.following + b) f.before_is.spells f.behind_spells ∙ ap (λ p. n / 10 ^ d * 10 ^ p + n % 10 ^ d) f.behind_places ∙ split in (
+    let number : spelled (f.before ++ f.following) ≡ n = spelled-append f.before f.following ∙ ap₂ (λ a b. a * 10 ^ length f.following + b) f.before_is.spells f.after_spells ∙ ap (λ p. n / 10 ^ d * 10 ^ p + n % 10 ^ d) f.after_places ∙ split in (
       record { before = f.before; following = f.following; exponent = pos 0 },
       fixed_text text f.before f.following f.before_is.digits f.after_digits f.before_is.some f.text_is,
-      ap₂ (λ k p. ratio (pos k) (10 ^ p)) (sym number) (sym f.behind_places) ∙ sym (plain_number f.before f.following),
+      ap₂ (λ k p. ratio (pos k) (10 ^ p)) (sym number) (sym f.after_places) ∙ sym (plain_number f.before f.following),
     )
 
 neg-ratio : (n d : ℕ) → 0 < d → ratio (negsuc n) d ≡ neg_ℚ (ratio (pos (suc n)) d)
@@ -83,7 +83,7 @@ one_with_sign Is (negsuc n) s t one h k = h.1 ∙ ap (λ (l : List ℕ). codes "
 pub one_fixed : (d n : ℕ) (s t : List ℕ) → IsFixed d n s → IsFixed d n t → s ≡ t
 one_fixed d n s t f g =
     let before = one_numeral (n / 10 ^ d) f.before g.before f.before_is g.before_is in
-    let following = same_digits f.following g.following f.after_digits g.after_digits (f.behind_places ∙ sym g.behind_places) (f.behind_spells ∙ sym g.behind_spells) in
+    let following = same_digits f.following g.following f.after_digits g.after_digits (f.after_places ∙ sym g.after_places) (f.after_spells ∙ sym g.after_spells) in
     f.text_is ∙ ap₂ (λ (a b : List ℕ). a ++ with_decimal_point b) before following ∙ sym g.text_is
 
 pub one_rounded : (d : ℕ) (x : Number) (s t : List ℕ) → IsRoundedText d x s → IsRoundedText d x t → s ≡ t

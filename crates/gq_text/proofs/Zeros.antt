@@ -6,7 +6,7 @@ use Rattle.std.proofs.lemmas.List.{take-append-drop, take_more, length-drop, len
 use Rattle.gq_text.specs.Numeral.{AreDigits, spelled}
 use Rattle.gq_text.specs.Literal.{HasNoTrailingZero}
 use Rattle.gq_text.specs.InnerShortest.{Shortens}
-use Rattle.gq_text.proofs.Numerals.{spelled-append, spelled_push, AreDigits_front}
+use Rattle.gq_text.proofs.Numerals.{spelled-append, spelled_push, AreDigits_prefix}
 use Rattle.gq_text.proofs.Literals.{tens_above}
 
 -- ---- digits in order
@@ -27,8 +27,8 @@ digit_at (b ∷ bs) zero h below = (h.0, h.1)
 digit_at (b ∷ bs) (suc i) h below = digit_at bs i h.2 (omega arith)
 
 -- one digit more
-pub front_more : (prefix i : ℕ) (ds : List ℕ) → i < length ds → prefix * 10 ^ (i + 1) + spelled (take (i + 1) ds) ≡ (prefix * 10 ^ i + spelled (take i ds)) * 10 + (get_or ds i 0 - 48)
-front_more prefix i ds below =
+pub prefix_more : (prefix i : ℕ) (ds : List ℕ) → i < length ds → prefix * 10 ^ (i + 1) + spelled (take (i + 1) ds) ≡ (prefix * 10 ^ i + spelled (take i ds)) * 10 + (get_or ds i 0 - 48)
+prefix_more prefix i ds below =
     let next : take (i + 1) ds ≡ take i ds ++ get_or ds i 0 ∷ [] = take_more ds i 0 below in
     let unit : 10 ^ (i + 1) ≡ 10 * 10 ^ i = (let e : i + 1 ≡ suc i = omega arith in ap (λ n. 10 ^ n) e) ∙ pow-succ' 10 i in
     ap₂ (λ u s. prefix * u + s) unit (ap spelled next ∙ spelled_push (take i ds) (get_or ds i 0)) ∙ omega arith
@@ -82,15 +82,15 @@ append_nil [] = refl
 append_nil (x ∷ xs) = ap (λ (l : List ℕ). x ∷ l) (append_nil xs)
 
 -- if nothing remains after the point, the zeros before it go too
-pub none_behind : (before following whole fraction : List ℕ) → AreDigits before → length fraction ≡ 0 → following ≡ fraction ++ replicate (length following - length fraction) 48 → before ≡ whole ++ replicate (length before - length whole) 48 → length whole ≤ length before → get_or whole (length whole - 1) 0 ≢ 48 → Shortens before following whole fraction
-none_behind before following whole fraction h empty zeros zeros_before shorter last =
+pub none_after : (before following whole fraction : List ℕ) → AreDigits before → length fraction ≡ 0 → following ≡ fraction ++ replicate (length following - length fraction) 48 → before ≡ whole ++ replicate (length before - length whole) 48 → length whole ≤ length before → get_or whole (length whole - 1) 0 ≢ 48 → Shortens before following whole fraction
+none_after before following whole fraction h empty zeros zeros_before shorter last =
     let none : fraction ≡ [] = empty_list fraction empty in
     let z = length before - length whole in
     let q = length following - length fraction in
-    let whole_digits : AreDigits whole = AreDigits_front whole (replicate z 48) (subst AreDigits zeros_before h) in
+    let whole_digits : AreDigits whole = AreDigits_prefix whole (replicate z 48) (subst AreDigits zeros_before h) in
     let same : whole ++ fraction ≡ whole = ap (λ l. whole ++ l) none ∙ append_nil whole in
     let before_is : spelled before ≡ spelled whole * 10 ^ z = ap spelled zeros_before ∙ spelled-zeros whole z in
-    let behind_is : spelled following ≡ 0 = ap spelled (zeros ∙ ap (λ l. l ++ replicate q 48) none) ∙ spelled_zeros q in
+    let after_is : spelled following ≡ 0 = ap spelled (zeros ∙ ap (λ l. l ++ replicate q 48) none) ∙ spelled_zeros q in
     let places : length following ≡ q = ap (λ n. n) (let e : length fraction ≡ 0 = ap length none in omega arith) in
     let unit : 10 ^ (z + q) ≡ 10 ^ z * 10 ^ q = pow-add 10 z q in
     record {
@@ -99,15 +99,15 @@ none_behind before following whole fraction h empty zeros zeros_before shorter l
       whole_shorter = shorter;
       fraction_shorter = (let e : length fraction ≡ 0 = ap length none in omega arith);
       shortest = subst (λ l. HasNoTrailingZero (spelled l)) (sym same) (HasNoTrailingZero-from whole whole_digits last);
-      spells = spelled-append before following ∙ ap₂ (λ a b. a * 10 ^ length following + b) before_is behind_is ∙ ap (λ n. spelled whole * 10 ^ z * 10 ^ n + 0) places ∙ omega arith ∙ ap₂ (λ a u. a * u) (ap spelled (sym same)) (sym unit);
+      spells = spelled-append before following ∙ ap₂ (λ a b. a * 10 ^ length following + b) before_is after_is ∙ ap (λ n. spelled whole * 10 ^ z * 10 ^ n + 0) places ∙ omega arith ∙ ap₂ (λ a u. a * u) (ap spelled (sym same)) (sym unit);
     }
 
 -- else only the zeros after it
-pub some_behind : (before following fraction : List ℕ) → AreDigits before → AreDigits following → 0 < length fraction → following ≡ fraction ++ replicate (length following - length fraction) 48 → length fraction ≤ length following → get_or fraction (length fraction - 1) 0 ≢ 48 → Shortens before following before fraction
-some_behind before following fraction h k some zeros shorter last =
+pub some_after : (before following fraction : List ℕ) → AreDigits before → AreDigits following → 0 < length fraction → following ≡ fraction ++ replicate (length following - length fraction) 48 → length fraction ≤ length following → get_or fraction (length fraction - 1) 0 ≢ 48 → Shortens before following before fraction
+some_after before following fraction h k some zeros shorter last =
     let q = length following - length fraction in
-    let fraction_digits : AreDigits fraction = AreDigits_front fraction (replicate q 48) (subst AreDigits zeros k) in
-    let behind_is : spelled following ≡ spelled fraction * 10 ^ q = ap spelled zeros ∙ spelled-zeros fraction q in
+    let fraction_digits : AreDigits fraction = AreDigits_prefix fraction (replicate q 48) (subst AreDigits zeros k) in
+    let after_is : spelled following ≡ spelled fraction * 10 ^ q = ap spelled zeros ∙ spelled-zeros fraction q in
     let unit : 10 ^ length following ≡ 10 ^ length fraction * 10 ^ q = (let e : length following ≡ length fraction + q = omega arith in ap (λ n. 10 ^ n) e) ∙ pow-add 10 (length fraction) q in
     let no_more : (length before - length before) + q ≡ q = omega arith in
     record {
@@ -116,5 +116,5 @@ some_behind before following fraction h k some zeros shorter last =
       whole_shorter = omega arith;
       fraction_shorter = shorter;
       shortest = HasNoTrailingZero-append before fraction fraction_digits some last;
-      spells = spelled-append before following ∙ ap₂ (λ u b. spelled before * u + b) unit behind_is ∙ omega arith ∙ ap₂ (λ a n. a * 10 ^ n) (sym (spelled-append before fraction)) (sym no_more);
+      spells = spelled-append before following ∙ ap₂ (λ u b. spelled before * u + b) unit after_is ∙ omega arith ∙ ap₂ (λ a n. a * 10 ^ n) (sym (spelled-append before fraction)) (sym no_more);
     }

@@ -19,8 +19,8 @@ pub record IsFixed (decimals n : ℕ) (text : List ℕ) : Type 0 where
   pub following : List ℕ
   pub before_is : IsNumeral (n / 10 ^ decimals) before
   pub after_digits : AreDigits following
-  pub behind_places : length following ≡ decimals
-  pub behind_spells : spelled following ≡ n % 10 ^ decimals
+  pub after_places : length following ≡ decimals
+  pub after_spells : spelled following ≡ n % 10 ^ decimals
   pub text_is : text ≡ before ++ with_decimal_point following
 
 -- such a text with a sign, which occurs only if n is not 0

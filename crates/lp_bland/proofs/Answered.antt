@@ -24,7 +24,7 @@ use Rattle.lp_std.specs.Last.{IsDictionaryOf}
 use Rattle.lp_std.proofs.Ends.{proved_at}
 use Rattle.lp_nocycle.proofs.SameForm.{bound_same, form_same, itself}
 use Rattle.lp_core.proofs.Rules.{improves_of, legal_of}
-use Rattle.lp_simplex.proofs.ProgramDictionaries.{first_stands, stands_last}
+use Rattle.lp_simplex.proofs.ProgramDictionaries.{first_occurs, occurs_last}
 use Rattle.lp_bland.proofs.Programs.{none_cross, well_formed_same}
 use Rattle.lp_bland.proofs.SameSteps.{standard_steps_same, steps_back_same}
 use Rattle.lp_bland.proofs.Widened.{told_same, read_of, crossed_so}
@@ -88,6 +88,6 @@ module _ {F : Type 0} (value : F → Number) (limit : ℕ) (lp : Lp F) (iterlim 
       let well = well_formed_same value itself lp numbers same formed in
       let start = first_dictionary (standard_form itself numbers) in
       let moved : LeadsWithin (ByRule rule) limit 1 [] start answer.pivots last = subst (λ (s : Standard). LeadsWithin (ByRule rule) limit 1 [] (first_dictionary s) answer.pivots last) (sym (form_same value lp)) way in
-      let stands = stands_last (standard_form itself numbers) (ByRule rule) (λ done d p k allowed. legal_of rule d p k allowed) [] start answer.pivots last (first_stands itself numbers well) moved.0 in
+      let occurs = occurs_last (standard_form itself numbers) (ByRule rule) (λ done d p k allowed. legal_of rule d p k allowed) [] start answer.pivots last (first_occurs itself numbers well) moved.0 in
       search_ends none (subst AllFit (sym (standard_steps_same value limit lp)) fit) few last moved
-      (ends_over none last stands.of_form (ByRule rule answer.pivots last) (IsChosen rule last) (λ q chosen. improves_of rule last q chosen) n answer.end ends)
+      (ends_over none last occurs.of_form (ByRule rule answer.pivots last) (IsChosen rule last) (λ q chosen. improves_of rule last q chosen) n answer.end ends)

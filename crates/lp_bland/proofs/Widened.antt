@@ -26,7 +26,7 @@ use Rattle.lp_bland.proofs.Naturality.{levels_same, row_sums_same, duals_same, f
 use Rattle.lp_bland.proofs.SameSteps.{standard_steps_same, steps_back_same}
 use Rattle.lp_bland.proofs.Eased.{ratio_eased, exchange_eased, standard_eased, steps_back_eased}
 use Rattle.lp_core.proofs.Rules.{improves_of, legal_of}
-use Rattle.lp_simplex.proofs.ProgramDictionaries.{first_stands, stands_last}
+use Rattle.lp_simplex.proofs.ProgramDictionaries.{first_occurs, occurs_last}
 use Rattle.lp_bland.proofs.Programs.{none_cross, crossed_same}
 
 -- pivots that fit under the lesser limit fit under the greater
@@ -157,7 +157,7 @@ module _ {F G : Type 0} (value : F → Number) (other : G → Number) (low high 
       let fits = fits_eased low high less (ByRule rule) 1 [] (first_dictionary (standard_form value lp)) answer.pivots last way.0 way.1 in
       let on : LeadsWithin (ByRule rule) high 1 [] (first_dictionary (standard_form value lp)) answer.pivots last = (way.0, fits) in
       let moved : LeadsWithin (ByRule rule) high 1 [] start made.pivots last = subst₂ (λ d (p : List Pivot). LeadsWithin (ByRule rule) high 1 [] d p last) form pivots on in
-      let stands = stands_last (standard_form other wide) (ByRule rule) (λ done d p k allowed. legal_of rule d p k allowed) [] start made.pivots last (first_stands other wide formed) moved.0 in
+      let occurs = occurs_last (standard_form other wide) (ByRule rule) (λ done d p k allowed. legal_of rule d p k allowed) [] start made.pivots last (first_occurs other wide formed) moved.0 in
       search_ends none (standard_fit value other lp wide same low high less fit) (subst (λ (p : List Pivot). length p ≤ iterlim) pivots few) last moved
       (subst (λ (p : List Pivot). EndsSoBy other high wide iterlim (ByRule rule p last) (IsChosen rule last) (length p) last made.end) pivots
-      (end_so value other lp wide same low high less formed iterlim none last stands.of_form (ByRule rule answer.pivots last) (IsChosen rule last) (λ q chosen. improves_of rule last q chosen) (length answer.pivots) answer.end made.end (end_same answer made e) fine ends))
+      (end_so value other lp wide same low high less formed iterlim none last occurs.of_form (ByRule rule answer.pivots last) (IsChosen rule last) (λ q chosen. improves_of rule last q chosen) (length answer.pivots) answer.end made.end (end_same answer made e) fine ends))

@@ -19,15 +19,15 @@ none_both (true ∷ a) b e h = ap (option_map (λ n. n + 1)) (none_both a b (no_
 none_both (false ∷ a) b e h = cc
 
 -- all of the first fit, and one of the second does not
-pub some_behind : (a b : List Bool) (n : ℕ) → first_unfit a ≡ None → first_unfit b ≡ Some n → first_unfit (a ++ b) ≡ Some (length a + n)
-some_behind [] b n e h = h ∙ ap Some (omega arith)
-some_behind (true ∷ a) b n e h =
-    ap (option_map (λ m. m + 1)) (some_behind a b n (no_more (first_unfit a) e) h) ∙ ap Some (omega arith)
+pub some_after : (a b : List Bool) (n : ℕ) → first_unfit a ≡ None → first_unfit b ≡ Some n → first_unfit (a ++ b) ≡ Some (length a + n)
+some_after [] b n e h = h ∙ ap Some (omega arith)
+some_after (true ∷ a) b n e h =
+    ap (option_map (λ m. m + 1)) (some_after a b n (no_more (first_unfit a) e) h) ∙ ap Some (omega arith)
   where
     no_more : (o : Option ℕ) → option_map (λ n. n + 1) o ≡ None → o ≡ None
     no_more None e = refl
     no_more (Some n) e = cc
-some_behind (false ∷ a) b n e h = cc
+some_after (false ∷ a) b n e h = cc
 
 -- one of the first does not
 some_or_none : (n : ℕ) (a : List Bool) (o : Option ℕ) → first_unfit a ≡ o → option_map (λ m. m + 1) o ≡ Some n → (m : ℕ) × (first_unfit a ≡ Some m)
@@ -48,26 +48,26 @@ stops_before taken a b (Ratio pivot row) h = h
 stops_before taken a b (Exchange pivot row column part) h = h
 stops_before taken a b (Recover what index entry part) h = h
 
-pub stops_behind : (before between : ℕ) (a b : List Bool) (step : StepName) → Took before a between → StopsAfterSteps between b step → StopsAfterSteps before (a ++ b) step
-stops_behind before between a b (Check part) took h =
-    (length a + h.0, some_behind a b h.0 took.0 h.1, h.2 ∙ ap (λ n. n + h.0) took.1 ∙ omega arith)
-stops_behind before between a b (StandardStep row column part) took h = h
-stops_behind before between a b (Ratio pivot row) took h = h
-stops_behind before between a b (Exchange pivot row column part) took h = h
-stops_behind before between a b (Recover what index entry part) took h = h
+pub stops_after : (before between : ℕ) (a b : List Bool) (step : StepName) → Took before a between → StopsAfterSteps between b step → StopsAfterSteps before (a ++ b) step
+stops_after before between a b (Check part) took h =
+    (length a + h.0, some_after a b h.0 took.0 h.1, h.2 ∙ ap (λ n. n + h.0) took.1 ∙ omega arith)
+stops_after before between a b (StandardStep row column part) took h = h
+stops_after before between a b (Ratio pivot row) took h = h
+stops_after before between a b (Exchange pivot row column part) took h = h
+stops_after before between a b (Recover what index entry part) took h = h
 
 pub took_both : (before between after : ℕ) (a b : List Bool) → Took before a between → Took between b after → Took before (a ++ b) after
 took_both before between after a b first second =
     (none_both a b first.0 second.0, second.1 ∙ ap (λ n. n + length b) first.1 ∙ omega (arith, length-append a b))
 
 module _ {F : Type 0} (value : F → Number) where
-  pub reaches_behind : (before between : ℕ) (a b : List Bool) (number : Number) (result : Result (Partial F) StepName) → Took before a between → Reaches value between b number result → Reaches value before (a ++ b) number result
-  reaches_behind before between a b number (Ok p) took h = (took_both before between p.taken a b took h.0, h.1)
-  reaches_behind before between a b number (Err step) took h = stops_behind before between a b step took h
+  pub reaches_after : (before between : ℕ) (a b : List Bool) (number : Number) (result : Result (Partial F) StepName) → Took before a between → Reaches value between b number result → Reaches value before (a ++ b) number result
+  reaches_after before between a b number (Ok p) took h = (took_both before between p.taken a b took h.0, h.1)
+  reaches_after before between a b number (Err step) took h = stops_after before between a b step took h
 
-pub takes_behind : (before between : ℕ) (a b : List Bool) (result : Result ℕ StepName) → Took before a between → TakesSteps between b result → TakesSteps before (a ++ b) result
-takes_behind before between a b (Ok after) took h = took_both before between after a b took h
-takes_behind before between a b (Err step) took h = stops_behind before between a b step took h
+pub takes_after : (before between : ℕ) (a b : List Bool) (result : Result ℕ StepName) → Took before a between → TakesSteps between b result → TakesSteps before (a ++ b) result
+takes_after before between a b (Ok after) took h = took_both before between after a b took h
+takes_after before between a b (Err step) took h = stops_after before between a b step took h
 
 -- Steps under way: how many were made before them all and before the remaining ones; a result of
 -- the rest is a result of the whole.
@@ -76,14 +76,14 @@ pub record Going {F : Type 0} (value : F → Number) (before now : ℕ) (whole r
   pub so_far : (result : Result (Partial F) StepName) → Reaches value now rest last result → Reaches value before whole number result
 
 module _ {F : Type 0} (value : F → Number) (before now : ℕ) (whole rest : List Bool) (number last : Number) (going : Going value before now whole rest number last) (a following : List Bool) (split : rest ≡ a ++ following) where
-  pub room_for : now + length a < 18446744073709551616
-  room_for = omega (arith, going.within_bound, ap length split, length-append a following)
+  pub bound_for : now + length a < 18446744073709551616
+  bound_for = omega (arith, going.within_bound, ap length split, length-append a following)
 
   pub continues : (after : ℕ) (next : Number) → last ≡ next → Took now a after → Going value before after whole following number next
   continues after next same took =
       record {
         within_bound = omega (arith, going.within_bound, ap length split, length-append a following, took.1);
-        so_far = λ result h. going.so_far result (rw (split, same) (reaches_behind value now after a following next result took h));
+        so_far = λ result h. going.so_far result (rw (split, same) (reaches_after value now after a following next result took h));
       }
 
   pub stops : (step : StepName) → StopsAfterSteps now a step → Reaches value before whole number (Err step)
@@ -99,14 +99,14 @@ pub record Counting (before now : ℕ) (whole rest : List Bool) : Type 0 where
   pub so_far : (result : Result ℕ StepName) → TakesSteps now rest result → TakesSteps before whole result
 
 module _ (before now : ℕ) (whole rest : List Bool) (counting : Counting before now whole rest) (a following : List Bool) (split : rest ≡ a ++ following) where
-  pub room_for_count : now + length a < 18446744073709551616
-  room_for_count = omega (arith, counting.within_bound, ap length split, length-append a following)
+  pub bound_for_count : now + length a < 18446744073709551616
+  bound_for_count = omega (arith, counting.within_bound, ap length split, length-append a following)
 
   pub count_on : (after : ℕ) → Took now a after → Counting before after whole following
   count_on after took =
       record {
         within_bound = omega (arith, counting.within_bound, ap length split, length-append a following, took.1);
-        so_far = λ result h. counting.so_far result (rw split (takes_behind now after a following result took h));
+        so_far = λ result h. counting.so_far result (rw split (takes_after now after a following result took h));
       }
 
   pub count_stops : (step : StepName) → StopsAfterSteps now a step → TakesSteps before whole (Err step)
@@ -128,7 +128,7 @@ second_fits a b e = fits_by a b (first_unfit b) refl (first_fits a b e) e
   where
     fits_by : (a b : List Bool) (o : Option ℕ) → first_unfit b ≡ o → first_unfit a ≡ None → first_unfit (a ++ b) ≡ None → first_unfit b ≡ None
     fits_by a b None is fit e = is
-    fits_by a b (Some n) is fit e = absurd (cc (some_behind a b n fit is))
+    fits_by a b (Some n) is fit e = absurd (cc (some_after a b n fit is))
 
 -- steps that all fit stop nowhere
 pub fit_no_stop : (taken : ℕ) (a : List Bool) (step : StepName) → first_unfit a ≡ None → StopsAfterSteps taken a step → ⊥

@@ -58,18 +58,18 @@ module _ {F : Type 0} (value : F → Number) where
 
   -- ---- the entry of a column among the first ones
 
-  behind_other : (j : ℕ) (a : List (ℕ × F)) (e : ℕ × F) → e.0 ≢ j → entry_of value (a ++ e ∷ []) j ≡ entry_of value a j
-  behind_other j [] e other = passed_over value j e [] other
-  behind_other j (f ∷ a) e other = ap (λ o. if f.0 == j then Some (value f.1) else o) (behind_other j a e other)
+  after_other : (j : ℕ) (a : List (ℕ × F)) (e : ℕ × F) → e.0 ≢ j → entry_of value (a ++ e ∷ []) j ≡ entry_of value a j
+  after_other j [] e other = passed_over value j e [] other
+  after_other j (f ∷ a) e other = ap (λ o. if f.0 == j then Some (value f.1) else o) (after_other j a e other)
 
   some_not_none : (x : Number) → Some x ≢ None
   some_not_none x e = cc
 
-  behind_here : (a : List (ℕ × F)) (e : ℕ × F) → entry_of value a e.0 ≡ None → entry_of value (a ++ e ∷ []) e.0 ≡ Some (value e.1)
-  behind_here [] e none = taken_here value e.0 e [] refl
-  behind_here (f ∷ a) e none = elim (cases_eq f.0 e.0) [
+  after_here : (a : List (ℕ × F)) (e : ℕ × F) → entry_of value a e.0 ≡ None → entry_of value (a ++ e ∷ []) e.0 ≡ Some (value e.1)
+  after_here [] e none = taken_here value e.0 e [] refl
+  after_here (f ∷ a) e none = elim (cases_eq f.0 e.0) [
     | inl same ↦ absurd (some_not_none (value f.1) (sym (taken_here value e.0 f a same) ∙ none))
-    | inr other ↦ passed_over value e.0 f (a ++ e ∷ []) other ∙ behind_here a e (sym (passed_over value e.0 f a other) ∙ none)
+    | inr other ↦ passed_over value e.0 f (a ++ e ∷ []) other ∙ after_here a e (sym (passed_over value e.0 f a other) ∙ none)
   ]
 
   module _ (entries : List (ℕ × F)) (k : ℕ) (e : ℕ × F) (ascending : AllPairs (λ (a b : ℕ × F). a.0 < b.0) entries) (here : k < length entries) (is : e ≡ get_or entries k e) where
@@ -90,13 +90,13 @@ module _ {F : Type 0} (value : F → Number) where
     less_more limit y before numbers x there h fit made = λ j. elim (cases_eq e.0 j) [
       | inl same ↦ subst (λ i. (first_unfit (less_steps limit (before i) y (entry_of value (take (k + 1) entries) i)) ≡ None) × (value_of_column (map value (slice_set numbers e.0 x)) i ≡ less_product (before i) y (entry_of value (take (k + 1) entries) i))) same (at_own limit y before numbers x there h fit made)
       | inr other ↦
-          let entry : entry_of value (take (k + 1) entries) j ≡ entry_of value (take k entries) j = ap (λ l. entry_of value l j) one_more ∙ behind_other j (take k entries) e other in
+          let entry : entry_of value (take (k + 1) entries) j ≡ entry_of value (take k entries) j = ap (λ l. entry_of value l j) one_more ∙ after_other j (take k entries) e other in
           (ap (λ o. first_unfit (less_steps limit (before j) y o)) entry ∙ (h j).0, other_number numbers e.0 j x (λ same. other (sym same)) ∙ (h j).1 ∙ ap (less_product (before j) y) (sym entry))
     ]
       where
         at_own : (limit : ℕ) (y : Number) (before : ℕ → Number) (numbers : List F) (x : F) → e.0 < length numbers → Lessened limit y (entry_of value (take k entries)) before (value_of_column (map value numbers)) → first_unfit (less_steps limit (value_of_column (map value numbers) e.0) y (Some (value e.1))) ≡ None → value x ≡ less_product (value_of_column (map value numbers) e.0) y (Some (value e.1)) → (first_unfit (less_steps limit (before e.0) y (entry_of value (take (k + 1) entries) e.0)) ≡ None) × (value_of_column (map value (slice_set numbers e.0 x)) e.0 ≡ less_product (before e.0) y (entry_of value (take (k + 1) entries) e.0))
         at_own limit y before numbers x there h fit made =
-            let entry : entry_of value (take (k + 1) entries) e.0 ≡ Some (value e.1) = ap (λ l. entry_of value l e.0) one_more ∙ behind_here (take k entries) e none_before in
+            let entry : entry_of value (take (k + 1) entries) e.0 ≡ Some (value e.1) = ap (λ l. entry_of value l e.0) one_more ∙ after_here (take k entries) e none_before in
             let kept : value_of_column (map value numbers) e.0 ≡ before e.0 = (h e.0).1 ∙ ap (less_product (before e.0) y) none_before in
             (ap₂ (λ s o. first_unfit (less_steps limit s y o)) (sym kept) entry ∙ fit, put_number numbers e.0 x there ∙ made ∙ ap₂ (λ s o. less_product s y o) kept (sym entry))
 
@@ -151,8 +151,8 @@ module _ {F : Type 0} (value : F → Number) (limit : ℕ) (above : Bool) (costs
   all_over = steps_over value above costs rows columns ys limit
 
   module _ (reduced : ℕ → Number) (s : Number) (reduced_is : reduced ≡ reduced_costs value costs rows ys) (s_is : s ≡ rows_sum value above (whole (pos 0)) rows ys) where
-    pub room_for_columns : (taken : ℕ) → taken ≡ 0 + length by_rows → length all_over < 18446744073709551616 → taken + length (by_columns reduced s) < 18446744073709551616
-    room_for_columns taken is within_bound =
+    pub bound_for_columns : (taken : ℕ) → taken ≡ 0 + length by_rows → length all_over < 18446744073709551616 → taken + length (by_columns reduced s) < 18446744073709551616
+    bound_for_columns taken is within_bound =
         let last = by_columns (reduced_costs value costs rows ys) (rows_sum value above (whole (pos 0)) rows ys) in
         rw (reduced_is, s_is) (omega (arith, within_bound, is, length-append (by_reduced ++ by_rows) last, length-append by_reduced by_rows))
 

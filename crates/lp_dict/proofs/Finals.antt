@@ -32,18 +32,18 @@ module _ (d : Dictionary) (proper : IsProper d) where
   pub priced_of_place : (k : ℕ) → slice_get d.basic k ≡ Some 0 → priced_row d ≡ k
   priced_of_place k at = ap (λ o. unwrap_or o (length d.basic)) (place k 0 at)
 
-  pub priced_behind : ¬ (Contains d.basic 0) → priced_row d ≡ length d.basic
-  priced_behind none = ap (λ o. unwrap_or o (length d.basic)) (no_row 0 none)
+  pub priced_after : ¬ (Contains d.basic 0) → priced_row d ≡ length d.basic
+  priced_after none = ap (λ o. unwrap_or o (length d.basic)) (no_row 0 none)
 
   pub priced_is : (k : ℕ) → IsPriced d k → priced_row d ≡ k
   priced_is k (inl at) = priced_of_place k at
-  priced_is k (inr following) = priced_behind following.0 ∙ sym following.1
+  priced_is k (inr following) = priced_after following.0 ∙ sym following.1
 
   pub priced_within : priced_row d ≤ length d.basic
   priced_within =
       elim (found_or_not d.basic 0) [
         | inl found ↦ let within = get_within d.basic found.0 0 found.1 in let same = priced_of_place found.0 found.1 in omega arith
-        | inr none ↦ let same = priced_behind none in omega arith
+        | inr none ↦ let same = priced_after none in omega arith
       ]
 
   -- ---- lists with a number for each variable
@@ -124,7 +124,7 @@ module _ (d : Dictionary) (proper : IsProper d) where
     zero_there less =
         elim (found_or_not d.basic 0) [
           | inl found ↦ subst (λ k. slice_get d.basic k ≡ Some 0) (sym (priced_of_place found.0 found.1)) found.1
-          | inr none ↦ let same = priced_behind none in absurd (omega arith)
+          | inr none ↦ let same = priced_after none in absurd (omega arith)
         ]
 
     pub costs_of_row : (list made : List F) (x : F) → priced_row d < length d.basic → AreOfRow value d (priced_row d) (d.variables + 1) list → value x ≡ whole (pos 0) → made ≡ slice_set list 0 x → map value made ≡ (last_of d).costs

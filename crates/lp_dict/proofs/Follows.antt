@@ -10,7 +10,7 @@ use Rattle.lp_std.specs.Last.{IsDictionaryOf}
 use Rattle.lp_fraction_dict.specs.Pivots.{IsProper}
 use Rattle.lp_fraction_dict.proofs.Equations.{meets_after, meets_before}
 use Rattle.lp_fraction_dict.proofs.OfForm.{of_form_after}
-use Rattle.lp_fraction_dict.proofs.Proper.{leaves_at, leaves_is, place_within, pivot_some, proper_after, none_due}
+use Rattle.lp_fraction_dict.proofs.Proper.{leaves_at, leaves_is, place_within, pivot_some, proper_after, none_required}
 
 module _ (d : Dictionary) (p : Pivot) (proper : IsProper d) (legal : (k : ℕ) × IsLegal d p k) (after : Dictionary) (follows : (k : ℕ) → slice_get d.basic k ≡ Some p.leave → after ≡ exchanged d p.enter k) where
   is_exchanged : after ≡ exchanged d p.enter legal.0
@@ -29,8 +29,8 @@ module _ (d : Dictionary) (p : Pivot) (proper : IsProper d) (legal : (k : ℕ) �
   pub stays_of_form : (s : Standard) → IsDictionaryOf s d → IsDictionaryOf s after
   stays_of_form s h = subst (IsDictionaryOf s) (sym is_exchanged) (of_form_after s d p legal.0 proper legal.1 law h)
 
-  pub is_not_due : ¬ (OpeningIsRequired after)
-  is_not_due required = none_due d p legal.0 proper legal.1 (subst OpeningIsRequired is_exchanged required)
+  pub is_not_required : ¬ (OpeningIsRequired after)
+  is_not_required required = none_required d p legal.0 proper legal.1 (subst OpeningIsRequired is_exchanged required)
 
   pub stays_proper : IsProper after
   stays_proper = subst IsProper (sym is_exchanged) (proper_after d p legal.0 proper legal.1)

@@ -11,12 +11,12 @@ use Rattle.lp_form.specs.Forms.{number_at, Step}
 use Rattle.lp_form.specs.InnerMerging.{Side, Outcome, values_first, Changes, no_more, kept, dropped, halted}
 use Rattle.lp_form.proofs.KeyOrder.{same_key-is, first-before, rest-ordered, ordered-nil, before-all}
 use Rattle.lp_form.proofs.Lookups.{number_at_first, number_at_before}
-use Rattle.lp_form.proofs.Merged.{IfMade, with_front, prefix, ordered_front}
+use Rattle.lp_form.proofs.Merged.{IfMade, with_prefix, prefix, ordered_prefix}
 
 module _ {F : Type 0} (value : F → Number) (step : Number → Step) where
   -- what is made comes after whatever comes before the list
   changed-after : (low : Key) {ks : List Key} {xs : List F} {r : Outcome F} → Changes value step ks xs r → All (λ k. key_cmp low k ≡ Less) ks → IfMade (λ made. All (λ m. key_cmp low m ≡ Less) made.keys) r
-  unfolding IfMade with_front
+  unfolding IfMade with_prefix
   changed-after low no_more before = All-nil (λ m. key_cmp low m ≡ Less)
   changed-after low (kept {k} {x} {z} {ks} {xs} {r} fits is some m) before =
       prefix k z _ _ r (λ made h. All-cons (λ m. key_cmp low m ≡ Less) k made.keys (All-head (λ k. key_cmp low k ≡ Less) k ks before) h) (changed-after low m (All-tail (λ k. key_cmp low k ≡ Less) k ks before))
@@ -24,22 +24,22 @@ module _ {F : Type 0} (value : F → Number) (step : Number → Step) where
   changed-after low (halted none) before = tt
 
   pub changed-ordered : {ks : List Key} {xs : List F} {r : Outcome F} → Changes value step ks xs r → AreOrdered ks → IfMade (λ made. AreOrdered made.keys) r
-  unfolding IfMade with_front
+  unfolding IfMade with_prefix
   changed-ordered no_more ordered = ordered-nil
   changed-ordered (kept {k} {x} {z} {ks} {xs} {r} fits is some m) ordered =
-      ordered_front k z r (changed-after k m (first-before k ks ordered)) (changed-ordered m (rest-ordered k ks ordered))
+      ordered_prefix k z r (changed-after k m (first-before k ks ordered)) (changed-ordered m (rest-ordered k ks ordered))
   changed-ordered (dropped {k} {x} {ks} {xs} {r} fits is m) ordered = changed-ordered m (rest-ordered k ks ordered)
   changed-ordered (halted none) ordered = tt
 
   pub changed-paired : {ks : List Key} {xs : List F} {r : Outcome F} → Changes value step ks xs r → IfMade (λ made. length made.numbers ≡ length made.keys) r
-  unfolding IfMade with_front
+  unfolding IfMade with_prefix
   changed-paired no_more = refl
   changed-paired (kept {k} {x} {z} {ks} {xs} {r} fits is some m) = prefix k z _ _ r (λ made h. ap suc h) (changed-paired m)
   changed-paired (dropped fits is m) = changed-paired m
   changed-paired (halted none) = tt
 
   pub changed-not_zero : {ks : List Key} {xs : List F} {r : Outcome F} → Changes value step ks xs r → IfMade (λ made. All (λ x. value x ≢ whole (pos 0)) made.numbers) r
-  unfolding IfMade with_front
+  unfolding IfMade with_prefix
   changed-not_zero no_more = All-nil (λ x. value x ≢ whole (pos 0))
   changed-not_zero (kept {k} {x} {z} {ks} {xs} {r} fits is some m) = prefix k z _ _ r (λ made h. All-cons (λ x. value x ≢ whole (pos 0)) z made.numbers some h) (changed-not_zero m)
   changed-not_zero (dropped fits is m) = changed-not_zero m

@@ -26,25 +26,25 @@ unfoldable pub IfMade : {F : Type 0} → (Side F → Type 0) → Outcome F → T
 IfMade P (Ok made) = P made
 IfMade P (Err key) = Unit {0}
 
-unfoldable pub with_front : {F : Type 0} → Key → F → Side F → Side F
-with_front k x made = record { keys = k ∷ made.keys; numbers = x ∷ made.numbers }
+unfoldable pub with_prefix : {F : Type 0} → Key → F → Side F → Side F
+with_prefix k x made = record { keys = k ∷ made.keys; numbers = x ∷ made.numbers }
 
 -- a property of a result with an entry before it, from one of the result
-pub prefix : {F : Type 0} (k : Key) (x : F) (P Q : Side F → Type 0) (r : Outcome F) → ((made : Side F) → P made → Q (with_front k x made)) → IfMade P r → IfMade Q (values_first k x r)
-unfolding IfMade with_front
+pub prefix : {F : Type 0} (k : Key) (x : F) (P Q : Side F → Type 0) (r : Outcome F) → ((made : Side F) → P made → Q (with_prefix k x made)) → IfMade P r → IfMade Q (values_first k x r)
+unfolding IfMade with_prefix
 prefix k x P Q (Ok made) step h = step made h
 prefix k x P Q (Err key) step h = tt
 
 -- an entry whose key precedes all, put before an ordered result
-pub ordered_front : {F : Type 0} (k : Key) (x : F) (r : Outcome F) → IfMade (λ made. All (λ m. key_cmp k m ≡ Less) made.keys) r → IfMade (λ made. AreOrdered made.keys) r → IfMade (λ made. AreOrdered made.keys) (values_first k x r)
-unfolding IfMade with_front
-ordered_front k x (Ok made) before h = ordered-cons k made.keys before h
-ordered_front k x (Err key) before h = tt
+pub ordered_prefix : {F : Type 0} (k : Key) (x : F) (r : Outcome F) → IfMade (λ made. All (λ m. key_cmp k m ≡ Less) made.keys) r → IfMade (λ made. AreOrdered made.keys) r → IfMade (λ made. AreOrdered made.keys) (values_first k x r)
+unfolding IfMade with_prefix
+ordered_prefix k x (Ok made) before h = ordered-cons k made.keys before h
+ordered_prefix k x (Err key) before h = tt
 
 module _ {F : Type 0} (value : F → Number) (limit : ℕ) where
   -- the result of a merge comes after whatever comes before both lists
   pub merged-after : (low : Key) {ks : List Key} {xs : List F} {ls : List Key} {ys : List F} {r : Outcome F} → Merges value limit ks xs ls ys r → All (λ k. key_cmp low k ≡ Less) ks → All (λ l. key_cmp low l ≡ Less) ls → IfMade (λ made. All (λ m. key_cmp low m ≡ Less) made.keys) r
-  unfolding IfMade with_front
+  unfolding IfMade with_prefix
   merged-after low done before others = All-nil (λ m. key_cmp low m ≡ Less)
   merged-after low (left {k} {x} {ks} {xs} {ls} {ys} {r} first m) before others =
       prefix k x _ _ r (λ made h. All-cons (λ m. key_cmp low m ≡ Less) k made.keys (All-head (λ k. key_cmp low k ≡ Less) k ks before) h) (merged-after low m (All-tail (λ k. key_cmp low k ≡ Less) k ks before) others)
@@ -58,20 +58,20 @@ module _ {F : Type 0} (value : F → Number) (limit : ℕ) where
 
   -- the result of a merge is in order
   pub merged-ordered : {ks : List Key} {xs : List F} {ls : List Key} {ys : List F} {r : Outcome F} → Merges value limit ks xs ls ys r → AreOrdered ks → AreOrdered ls → IfMade (λ made. AreOrdered made.keys) r
-  unfolding IfMade with_front
+  unfolding IfMade with_prefix
   merged-ordered done ordered others = ordered-nil
   merged-ordered (left {k} {x} {ks} {xs} {ls} {ys} {r} first m) ordered others =
-      ordered_front k x r (merged-after k m (first-before k ks ordered) (before-rest k ls first others)) (merged-ordered m (rest-ordered k ks ordered) others)
+      ordered_prefix k x r (merged-after k m (first-before k ks ordered) (before-rest k ls first others)) (merged-ordered m (rest-ordered k ks ordered) others)
   merged-ordered (right {l} {y} {ks} {xs} {ls} {ys} {r} first m) ordered others =
-      ordered_front l y r (merged-after l m (before-rest l ks first ordered) (first-before l ls others)) (merged-ordered m ordered (rest-ordered l ls others))
+      ordered_prefix l y r (merged-after l m (before-rest l ks first ordered) (first-before l ls others)) (merged-ordered m ordered (rest-ordered l ls others))
   merged-ordered (both {k} {l} {x} {y} {z} {ks} {xs} {ls} {ys} {r} same fits sum some m) ordered others =
-      ordered_front k z r (merged-after k m (first-before k ks ordered) (subst (λ j. All (λ m. key_cmp j m ≡ Less) ls) (sym (key_cmp-Equal k l same)) (first-before l ls others))) (merged-ordered m (rest-ordered k ks ordered) (rest-ordered l ls others))
+      ordered_prefix k z r (merged-after k m (first-before k ks ordered) (subst (λ j. All (λ m. key_cmp j m ≡ Less) ls) (sym (key_cmp-Equal k l same)) (first-before l ls others))) (merged-ordered m (rest-ordered k ks ordered) (rest-ordered l ls others))
   merged-ordered (gone {k} {l} {x} {y} {ks} {xs} {ls} {ys} {r} same fits sum m) ordered others = merged-ordered m (rest-ordered k ks ordered) (rest-ordered l ls others)
   merged-ordered (stopped same none) ordered others = tt
 
   -- each key has its number
   pub merged-paired : {ks : List Key} {xs : List F} {ls : List Key} {ys : List F} {r : Outcome F} → Merges value limit ks xs ls ys r → IfMade (λ made. length made.numbers ≡ length made.keys) r
-  unfolding IfMade with_front
+  unfolding IfMade with_prefix
   merged-paired done = refl
   merged-paired (left {k} {x} {ks} {xs} {ls} {ys} {r} first m) = prefix k x _ _ r (λ made h. ap suc h) (merged-paired m)
   merged-paired (right {l} {y} {ks} {xs} {ls} {ys} {r} first m) = prefix l y _ _ r (λ made h. ap suc h) (merged-paired m)
@@ -81,7 +81,7 @@ module _ {F : Type 0} (value : F → Number) (limit : ℕ) where
 
   -- no number is 0
   pub merged-not_zero : {ks : List Key} {xs : List F} {ls : List Key} {ys : List F} {r : Outcome F} → Merges value limit ks xs ls ys r → All (λ x. value x ≢ whole (pos 0)) xs → All (λ y. value y ≢ whole (pos 0)) ys → IfMade (λ made. All (λ x. value x ≢ whole (pos 0)) made.numbers) r
-  unfolding IfMade with_front
+  unfolding IfMade with_prefix
   merged-not_zero done some others = All-nil (λ x. value x ≢ whole (pos 0))
   merged-not_zero (left {k} {x} {ks} {xs} {ls} {ys} {r} first m) some others =
       prefix k x _ _ r (λ made h. All-cons (λ x. value x ≢ whole (pos 0)) x made.numbers (All-head (λ x. value x ≢ whole (pos 0)) x xs some) h) (merged-not_zero m (All-tail (λ x. value x ≢ whole (pos 0)) x xs some) others)
@@ -130,8 +130,8 @@ module _ {F : Type 0} (value : F → Number) (limit : ℕ) (within : (x : F) →
           | false ↦ λ _. h
         ] refl
 
-    left_sum : (made : Side F) (key : Key) → SumAt ks xs ls ys made key → SumAt (k ∷ ks) (x ∷ xs) ls ys (with_front k x made) key
-    unfolding SumAt with_front
+    left_sum : (made : Side F) (key : Key) → SumAt ks xs ls ys made key → SumAt (k ∷ ks) (x ∷ xs) ls ys (with_prefix k x made) key
+    unfolding SumAt with_prefix
     left_sum made key h =
         elim (same_key k key) as (λ b. same_key k key ≡ b → cond b (value x) (number_at value made.keys made.numbers key) ≡ cond b (value x) (number_at value ks xs key) +ℚ number_at value ls ys key) [
           | true ↦ λ same. rw (right_none key same) (sym (+ℚ-zero (value x)))
@@ -162,8 +162,8 @@ module _ {F : Type 0} (value : F → Number) (limit : ℕ) (within : (x : F) →
           | false ↦ λ _. h
         ] refl
 
-    right_sum : (made : Side F) (key : Key) → SumAt ks xs ls ys made key → SumAt ks xs (l ∷ ls) (y ∷ ys) (with_front l y made) key
-    unfolding SumAt with_front
+    right_sum : (made : Side F) (key : Key) → SumAt ks xs ls ys made key → SumAt ks xs (l ∷ ls) (y ∷ ys) (with_prefix l y made) key
+    unfolding SumAt with_prefix
     right_sum made key h =
         elim (same_key l key) as (λ b. same_key l key ≡ b → cond b (value y) (number_at value made.keys made.numbers key) ≡ number_at value ks xs key +ℚ cond b (value y) (number_at value ls ys key)) [
           | true ↦ λ same. rw (left_none key same) (sym (zero-+ℚ (value y)))
@@ -191,8 +191,8 @@ module _ {F : Type 0} (value : F → Number) (limit : ℕ) (within : (x : F) →
           | false ↦ h
         ]
 
-    both_sum : (z : F) (made : Side F) (key : Key) → value z ≡ value x +ℚ value y → SumAt ks xs ls ys made key → SumAt (k ∷ ks) (x ∷ xs) (k ∷ ls) (y ∷ ys) (with_front k z made) key
-    unfolding SumAt with_front
+    both_sum : (z : F) (made : Side F) (key : Key) → value z ≡ value x +ℚ value y → SumAt ks xs ls ys made key → SumAt (k ∷ ks) (x ∷ xs) (k ∷ ls) (y ∷ ys) (with_prefix k z made) key
+    unfolding SumAt with_prefix
     both_sum z made key here h =
         elim (same_key k key) as (λ b. cond b (value z) (number_at value made.keys made.numbers key) ≡ cond b (value x) (number_at value ks xs key) +ℚ cond b (value y) (number_at value ls ys key)) [
           | true ↦ here
@@ -235,17 +235,17 @@ module _ {F : Type 0} (value : F → Number) (limit : ℕ) (within : (x : F) →
       ((before : Key) → key_cmp before key ≡ Less → sum_fits limit (number_at value ks xs before) (number_at value ls ys before) ≡ true) × (sum_fits limit (number_at value ks xs key) (number_at value ls ys key) ≡ false)
 
   told_left : (k : Key) (x : F) (ks : List Key) (xs : List F) (ls : List Key) (ys : List F) (r : Outcome F) → All (λ l. key_cmp k l ≡ Less) ls → AreOrdered (k ∷ ks) → Tells ks xs ls ys r → Tells (k ∷ ks) (x ∷ xs) ls ys (values_first k x r)
-  unfolding Tells SumAt FitsAt with_front
+  unfolding Tells SumAt FitsAt with_prefix
   told_left k x ks xs ls ys (Ok made) apart ordered h = λ key. (left_sum k x ks xs ls ys apart made key (h key).0, left_fits k x ks xs ls ys apart key (h key).1)
   told_left k x ks xs ls ys (Err key) apart ordered h = (λ before less. left_fits k x ks xs ls ys apart before (h.0 before less), left_stop k x ks xs ls ys apart key ordered h.1)
 
   told_right : (ks : List Key) (xs : List F) (l : Key) (y : F) (ls : List Key) (ys : List F) (r : Outcome F) → All (λ k. key_cmp l k ≡ Less) ks → AreOrdered (l ∷ ls) → Tells ks xs ls ys r → Tells ks xs (l ∷ ls) (y ∷ ys) (values_first l y r)
-  unfolding Tells SumAt FitsAt with_front
+  unfolding Tells SumAt FitsAt with_prefix
   told_right ks xs l y ls ys (Ok made) apart ordered h = λ key. (right_sum ks xs l y ls ys apart made key (h key).0, right_fits ks xs l y ls ys apart key (h key).1)
   told_right ks xs l y ls ys (Err key) apart ordered h = (λ before less. right_fits ks xs l y ls ys apart before (h.0 before less), right_stop ks xs l y ls ys apart key ordered h.1)
 
   told_both : (k : Key) (x y z : F) (ks : List Key) (xs : List F) (ls : List Key) (ys : List F) (r : Outcome F) → sum_fits limit (value x) (value y) ≡ true → value z ≡ value x +ℚ value y → AreOrdered (k ∷ ks) → AreOrdered (k ∷ ls) → Tells ks xs ls ys r → Tells (k ∷ ks) (x ∷ xs) (k ∷ ls) (y ∷ ys) (values_first k z r)
-  unfolding Tells SumAt FitsAt with_front
+  unfolding Tells SumAt FitsAt with_prefix
   told_both k x y z ks xs ls ys (Ok made) fits sum ordered others h = λ key. (both_sum k x ks xs y ls ys z made key sum (h key).0, both_fits k x ks xs y ls ys key fits (h key).1)
   told_both k x y z ks xs ls ys (Err key) fits sum ordered others h = (λ before less. both_fits k x ks xs y ls ys before fits (h.0 before less), both_stop k x ks xs y ls ys key ordered others h.1)
 

@@ -198,7 +198,7 @@ pub(crate) fn negated<F: ExactField>(alloc: Global, numbers: &[F]) -> Result<Vec
 }
 
 /// Whether all keys of the first list follow all of the second. Each list is in order.
-fn is_behind(keys: &[Key], others: &[Key]) -> bool
+fn is_after(keys: &[Key], others: &[Key]) -> bool
     requires { AreOrdered others.now }
     ensures { IsTrue result → All (λ other. IsBeforeFirst other keys.now) others.now }
 {
@@ -249,7 +249,7 @@ pub(crate) fn join<F: ExactField>(
     ensures keys_kept { OnErr result (keys.new.items ≡ keys.old.items) }
     ensures numbers_kept { OnErr result (numbers.new.items ≡ numbers.old.items) }
 {
-    if is_behind(more_keys, keys.as_slice()) {
+    if is_after(more_keys, keys.as_slice()) {
         extend(alloc, keys, numbers, more_keys, more_numbers)?;
         return Ok(());
     }

@@ -131,9 +131,9 @@ pub done_in_one : (d : Dictionary) (enter : Option ℕ) → IsDone d enter → e
 done_in_one d (Some q) done none phase = absurd (cc)
 done_in_one d None done none phase = elim done [ inl nothing ↦ nothing | inr broken ↦ absurd (broken.0 phase) ]
 
-pub done_not_due : (d : Dictionary) (enter : Option ℕ) → IsDone d enter → ¬ (OpeningIsRequired d)
-done_not_due d (Some q) done required = done.1.0 required
-done_not_due d None done required = elim done [ inl nothing ↦ nothing.0 required | inr broken ↦ broken.1 required ]
+pub done_not_required : (d : Dictionary) (enter : Option ℕ) → IsDone d enter → ¬ (OpeningIsRequired d)
+done_not_required d (Some q) done required = done.1.0 required
+done_not_required d None done required = elim done [ inl nothing ↦ nothing.0 required | inr broken ↦ broken.1 required ]
 
 pub read_along : (d : Dictionary) (enter : Option ℕ) → IsDone d enter → enter ≢ None → IsReadAt d kind.Unbounded (last_with d enter)
 read_along d (Some q) done some = (done.0, (q, done.1, refl))
@@ -143,10 +143,10 @@ pub read_in_one : (d : Dictionary) (enter : Option ℕ) → IsDone d enter → e
 read_in_one d enter done none phase = (phase, done_in_one d enter done none phase, ap (last_with d) none)
 
 pub read_at_best : (d : Dictionary) (enter : Option ℕ) → IsDone d enter → enter ≡ None → ¬ (InPhaseOne d) → ((v : ℕ) → ¬ (Improves d v)) → IsReadAt d kind.Optimal (last_with d enter)
-read_at_best d enter done none phase nothing = (phase, (done_not_due d enter done, nothing), ap (last_with d) none)
+read_at_best d enter done none phase nothing = (phase, (done_not_required d enter done, nothing), ap (last_with d) none)
 
 pub read_on_the_way : (d : Dictionary) (enter : Option ℕ) (q : ℕ) → IsDone d enter → enter ≡ None → ¬ (InPhaseOne d) → Improves d q → IsReadAt d kind.Interrupted (last_with d enter)
-read_on_the_way d enter q done none phase improves = (phase, done_not_due d enter done, (q, improves), ap (last_with d) none)
+read_on_the_way d enter q done none phase improves = (phase, done_not_required d enter done, (q, improves), ap (last_with d) none)
 
 pub none_from : (o : Option ℕ) (b : Bool) → b ≡ is_some o → b ≡ false → o ≡ None
 none_from None b is none = refl

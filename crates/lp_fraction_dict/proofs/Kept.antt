@@ -101,8 +101,8 @@ module _ {F : Type 0} (value : F → Number) (t : FractionTableau F) (inv : IsTa
       ]
 
   -- the lines of the places
-  pub objective_behind : line t.rows t.objective (length t.basic) ≡ t.objective
-  objective_behind = let same = inv.paired in index_past t.rows (length t.basic) t.objective (omega arith)
+  pub objective_after : line t.rows t.objective (length t.basic) ≡ t.objective
+  objective_after = let same = inv.paired in index_past t.rows (length t.basic) t.objective (omega arith)
 
   pub place_at_row : (rows : List (Vec (Entry F) Global)) (row : Vec (Entry F) Global) (place v : ℕ) → entries_of_rows rows ≡ t.rows → slice_get t.basic place ≡ Some v → row ≡ slice_index_or rows place row → row.items ≡ line t.rows t.objective place
   place_at_row rows row place v rows_are at is =

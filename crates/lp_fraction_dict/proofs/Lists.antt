@@ -11,7 +11,7 @@ use Rattle.lp_core.specs.Sums.{value_of_column}
 use Rattle.lp_fraction_dict.specs.declared.row.Entry.{Entry}
 use Rattle.lp_fraction_dict.specs.Rows.{IsRow, number_in}
 use Rattle.lp_fraction_dict.specs.Reading.{AreNumbers, AreByVariable, AreByColumn, AreChanges}
-use Rattle.lp_fraction_dict.proofs.Rows.{number_first, number_later, row_front, number_behind, number_before}
+use Rattle.lp_fraction_dict.proofs.Rows.{number_first, number_later, row_prefix, number_after, number_before}
 use Rattle.lp_fraction_dict.proofs.Kept.{get_within, get_index, index_get}
 use Rattle.lp_fraction_dict.proofs.Exchanging.{put_here, put_other, length-put}
 
@@ -98,7 +98,7 @@ module _ {F : Type 0} (value : F → Number) (row : List (Entry F)) (count : ℕ
         below (f ∷ prefix) low h = below prefix (f.column + 1) h.3
 
     number_here : number_in value (take (n + 1) row) e.column ≡ value e.number
-    number_here = ap (λ r. number_in value r e.column) more ∙ number_behind value (take n row) (e ∷ []) 0 e.column e.column (row_front value (take n row) e (drop (n + 1) row) 0 (count + 1) in_parts).0 (omega arith) ∙ number_first value e [] e.column refl
+    number_here = ap (λ r. number_in value r e.column) more ∙ number_after value (take n row) (e ∷ []) 0 e.column e.column (row_prefix value (take n row) e (drop (n + 1) row) 0 (count + 1) in_parts).0 (omega arith) ∙ number_first value e [] e.column refl
 
     number_same : (c : ℕ) → e.column ≢ c → number_in value (take (n + 1) row) c ≡ number_in value (take n row) c
     number_same c other = ap (λ r. number_in value r c) more ∙ number_before value (take n row) (e ∷ []) c (number_later value e [] c other)

@@ -10,7 +10,7 @@ use Rattle.lp_std.specs.Last.{HasZero, IsDictionaryOf}
 use Rattle.lp_fraction_dict.specs.Pivots.{IsProper}
 use Rattle.lp_fraction_dict.proofs.Kept.{index_get, contains_get}
 use Rattle.lp_fraction_dict.proofs.Exchanging.{length-put}
-use Rattle.lp_fraction_dict.proofs.Proper.{leaves_at, enters_new, basic_after, proper_after, none_due}
+use Rattle.lp_fraction_dict.proofs.Proper.{leaves_at, enters_new, basic_after, proper_after, none_required}
 
 pub of_form : (s : Standard) (d : Dictionary) → IsProper d → d.variables ≡ length s.objective + length s.rows → length d.basic ≡ length s.rows → ((x : List Number) (objective : Number) → (¬ (HasZero d) → value_of_column x 0 ≡ whole (pos 0)) → Meets d x objective ↔ Meets (first_dictionary s) x objective) → IsDictionaryOf s d
 of_form s d proper variables sized same =
@@ -27,7 +27,7 @@ of_form s d proper variables sized same =
 module _ (s : Standard) (d : Dictionary) (p : Pivot) (k : ℕ) (proper : IsProper d) (legal : IsLegal d p k) (law : (x : List Number) (objective : Number) → (p.leave ≡ 0 → value_of_column x 0 ≡ whole (pos 0)) → Meets d x objective ↔ Meets (exchanged d p.enter k) x objective) (h : IsDictionaryOf s d) where
   -- variable 0 has a part after the pivot only where it had one before and does not leave
   zero_from : HasZero (exchanged d p.enter k) → HasZero d × (p.leave ≢ 0)
-  zero_from (inr required) = absurd (none_due d p k proper legal required)
+  zero_from (inr required) = absurd (none_required d p k proper legal required)
   zero_from (inl phase) =
       let at : slice_get (exchanged d p.enter k).basic phase.0 ≡ Some 0 = index_get (exchanged d p.enter k).basic phase.0 0 0 phase.1 phase.2 in
       elim (basic_after d p k proper legal phase.0 0 at) [

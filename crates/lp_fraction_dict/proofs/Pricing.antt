@@ -13,7 +13,7 @@ use Rattle.lp_fraction_dict.specs.Lines.{line}
 use Rattle.lp_fraction_dict.specs.Tableau.{FractionTableau, fraction_dictionary, IsTableau}
 use Rattle.lp_fraction_dict.specs.InnerPricing.{IsFirstAbove}
 use Rattle.lp_fraction_dict.proofs.Kept.{get_within, index_get, contains_get, read_past}
-use Rattle.lp_fraction_dict.proofs.Rows.{number_first, number_later, number_below, number_behind, number_before, row_front, row_back}
+use Rattle.lp_fraction_dict.proofs.Rows.{number_first, number_later, number_below, number_after, number_before, row_prefix, row_back}
 
 -- of the first n entries none has a variable from 1 on with a number above 0
 pub record NoneAbove {F : Type 0} (value : F → Number) (row : List (Entry F)) (n : ℕ) : Type 0 where
@@ -34,17 +34,17 @@ module _ {F : Type 0} (value : F → Number) (row : List (Entry F)) where
     in_parts = subst (IsRow value low high) parts ordered
 
     pub prefix : IsRow value low e.column (take n row)
-    prefix = (row_front value (take n row) e (drop (n + 1) row) low high in_parts).0
+    prefix = (row_prefix value (take n row) e (drop (n + 1) row) low high in_parts).0
 
     pub number_here : number_in value (take (n + 1) row) e.column ≡ value e.number
-    number_here = ap (λ r. number_in value r e.column) more ∙ number_behind value (take n row) (e ∷ []) low e.column e.column prefix (omega arith) ∙ number_first value e [] e.column refl
+    number_here = ap (λ r. number_in value r e.column) more ∙ number_after value (take n row) (e ∷ []) low e.column e.column prefix (omega arith) ∙ number_first value e [] e.column refl
 
     pub number_other : (c : ℕ) → e.column ≢ c → number_in value (take (n + 1) row) c ≡ number_in value (take n row) c
     number_other c other = ap (λ r. number_in value r c) more ∙ number_before value (take n row) (e ∷ []) c (number_later value e [] c other)
 
     -- the number at the entry's column in the whole row
     number_there : number_in value row e.column ≡ value e.number
-    number_there = ap (λ r. number_in value r e.column) parts ∙ number_behind value (take n row) (e ∷ drop (n + 1) row) low e.column e.column prefix (omega arith) ∙ number_first value e (drop (n + 1) row) e.column refl
+    number_there = ap (λ r. number_in value r e.column) parts ∙ number_after value (take n row) (e ∷ drop (n + 1) row) low e.column e.column prefix (omega arith) ∙ number_first value e (drop (n + 1) row) e.column refl
 
     -- before it the number is that of the first entries
     number_early : (c : ℕ) → c < e.column → number_in value row c ≡ number_in value (take n row) c

@@ -204,8 +204,8 @@ module _ (d : Dictionary) (p : Pivot) (k : ℕ) (proper : IsProper d) (legal : I
   same_size = length-set d.basic k p.enter
 
   -- no opening pivot is required after a legal one
-  pub none_due : ¬ (OpeningIsRequired (exchanged d p.enter k))
-  none_due required =
+  pub none_required : ¬ (OpeningIsRequired (exchanged d p.enter k))
+  none_required required =
       let less : required.0 < length d.basic = subst (λ n. required.0 < n) same_size required.1 in
       not_above (whole (pos 0)) (constant_at (exchanged d p.enter k) required.0) (elim legal [ inl o ↦ opening_above o required.0 less | inr s ↦ step_above s required.0 less ]) required.2
 
@@ -261,6 +261,6 @@ module _ (d : Dictionary) (p : Pivot) (k : ℕ) (proper : IsProper d) (legal : I
             | inr apart ↦ same_old i v j old apart ∙ proper.apart i j v old.1 other
           ]
         ];
-        opening = λ required. absurd (none_due required);
+        opening = λ required. absurd (none_required required);
         above = zero_above;
       }

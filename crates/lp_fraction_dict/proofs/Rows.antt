@@ -43,10 +43,10 @@ module _ {F : Type 0} (value : F → Number) where
       (h.0, omega arith, h.2, row_to es (e.column + 1) high m h.3 more)
 
   -- a row in two parts
-  pub row_front : (prefix : List (Entry F)) (e : Entry F) (after : List (Entry F)) (low high : ℕ) → IsRow value low high (prefix ++ e ∷ after) → IsRow value low e.column prefix × (low ≤ e.column)
-  row_front [] e after low high h = (tt, h.0)
-  row_front (f ∷ prefix) e after low high h =
-      let rest = row_front prefix e after (f.column + 1) high h.3 in
+  pub row_prefix : (prefix : List (Entry F)) (e : Entry F) (after : List (Entry F)) (low high : ℕ) → IsRow value low high (prefix ++ e ∷ after) → IsRow value low e.column prefix × (low ≤ e.column)
+  row_prefix [] e after low high h = (tt, h.0)
+  row_prefix (f ∷ prefix) e after low high h =
+      let rest = row_prefix prefix e after (f.column + 1) high h.3 in
       let from = rest.1 in
       let least = h.0 in
       ((h.0, omega arith, h.2, rest.0), omega arith)
@@ -56,11 +56,11 @@ module _ {F : Type 0} (value : F → Number) where
   row_back (f ∷ prefix) e after low high h = row_back prefix e after (f.column + 1) high h.3
 
   -- the number of a row in two parts is in one of them
-  pub number_behind : (prefix back : List (Entry F)) (low high c : ℕ) → IsRow value low high prefix → high ≤ c → number_in value (prefix ++ back) c ≡ number_in value back c
-  number_behind [] back low high c h after = refl
-  number_behind (e ∷ prefix) back low high c h after =
+  pub number_after : (prefix back : List (Entry F)) (low high c : ℕ) → IsRow value low high prefix → high ≤ c → number_in value (prefix ++ back) c ≡ number_in value back c
+  number_after [] back low high c h after = refl
+  number_after (e ∷ prefix) back low high c h after =
       let most = h.1 in
-      number_later e (prefix ++ back) c (λ is. absurd (omega arith)) ∙ number_behind prefix back (e.column + 1) high c h.3 after
+      number_later e (prefix ++ back) c (λ is. absurd (omega arith)) ∙ number_after prefix back (e.column + 1) high c h.3 after
 
   pub number_before : (prefix back : List (Entry F)) (c : ℕ) → number_in value back c ≡ whole (pos 0) → number_in value (prefix ++ back) c ≡ number_in value prefix c
   number_before [] back c none = none
@@ -77,11 +77,11 @@ module _ {F : Type 0} (value : F → Number) where
 
   pub found_after : (prefix : List (Entry F)) (e : Entry F) (after : List (Entry F)) (low high c : ℕ) → IsRow value low high (prefix ++ e ∷ after) → e.column < c → number_in value (prefix ++ e ∷ after) c ≡ number_in value after c
   found_after prefix e after low high c h before =
-      number_behind prefix (e ∷ after) low e.column c (row_front prefix e after low high h).0 (omega arith) ∙ number_later e after c (λ is. absurd (omega arith))
+      number_after prefix (e ∷ after) low e.column c (row_prefix prefix e after low high h).0 (omega arith) ∙ number_later e after c (λ is. absurd (omega arith))
 
   pub found_here : (prefix : List (Entry F)) (e : Entry F) (after : List (Entry F)) (low high c : ℕ) → IsRow value low high (prefix ++ e ∷ after) → e.column ≡ c → number_in value (prefix ++ e ∷ after) c ≡ value e.number
   found_here prefix e after low high c h is =
-      number_behind prefix (e ∷ after) low e.column c (row_front prefix e after low high h).0 (omega arith) ∙ number_first e after c is
+      number_after prefix (e ∷ after) low e.column c (row_prefix prefix e after low high h).0 (omega arith) ∙ number_first e after c is
 
   pub found_before : (prefix : List (Entry F)) (e : Entry F) (after : List (Entry F)) (low high c : ℕ) → IsRow value low high (prefix ++ e ∷ after) → c < e.column → number_in value (prefix ++ e ∷ after) c ≡ number_in value prefix c
   found_before prefix e after low high c h before =
@@ -110,7 +110,7 @@ module _ {F : Type 0} (value : F → Number) (row rest prefix back : List (Entry
 
   pub search_before : c < e.column → Searched value row prefix c
   search_before before =
-      record { low = s.low; high = e.column; is_row = (row_front value prefix e after s.low s.high parts_row).0; same = same_parts ∙ found_before value prefix e after s.low s.high c parts_row before }
+      record { low = s.low; high = e.column; is_row = (row_prefix value prefix e after s.low s.high parts_row).0; same = same_parts ∙ found_before value prefix e after s.low s.high c parts_row before }
 
   pub search_here : e.column ≡ c → value e.number ≡ number_in value row c
   search_here is = sym (same_parts ∙ found_here value prefix e after s.low s.high c parts_row is)

@@ -33,8 +33,8 @@ both_fit steps more h k = All-append Fit steps more h k
 one_stops : (name : StepName) (b : Bool) → b ≡ false → FirstStop ((name, b) ∷ []) name
 one_stops name b is_false = record { before = []; following = []; split = ap (λ t. (name, t) ∷ []) is_false; fit = none_fit }
 
-stop_in_front : (steps more : List ExpectedStep) (name : StepName) → FirstStop steps name → FirstStop (steps ++ more) name
-stop_in_front steps more name s =
+stop_in_prefix : (steps more : List ExpectedStep) (name : StepName) → FirstStop steps name → FirstStop (steps ++ more) name
+stop_in_prefix steps more name s =
     record {
       before = s.before;
       following = s.following ++ more;
@@ -42,8 +42,8 @@ stop_in_front steps more name s =
       fit = s.fit;
     }
 
-stop_behind : (steps more : List ExpectedStep) (name : StepName) → AllFit steps → FirstStop more name → FirstStop (steps ++ more) name
-stop_behind steps more name h s =
+stop_after : (steps more : List ExpectedStep) (name : StepName) → AllFit steps → FirstStop more name → FirstStop (steps ++ more) name
+stop_after steps more name h s =
     record {
       before = steps ++ s.before;
       following = s.following;
@@ -67,11 +67,11 @@ module _ (f : ℕ → List ExpectedStep) (p : ℕ → Bool) where
   range_stops a zero m name low high is_true before here = absurd (omega arith)
   range_stops a (suc n) m name low high is_true before here =
       elim (cases_eq a m) [
-        | inl same ↦ subst (λ b. FirstStop (flat_map f (cond b (a ∷ filter p (range_with_len (a + 1) n)) (filter p (range_with_len (a + 1) n)))) name) (sym (ap p same ∙ is_true)) (stop_in_front (f a) (flat_map f (filter p (range_with_len (a + 1) n))) name (subst (λ k. FirstStop (f k) name) (sym same) here))
+        | inl same ↦ subst (λ b. FirstStop (flat_map f (cond b (a ∷ filter p (range_with_len (a + 1) n)) (filter p (range_with_len (a + 1) n)))) name) (sym (ap p same ∙ is_true)) (stop_in_prefix (f a) (flat_map f (filter p (range_with_len (a + 1) n))) name (subst (λ k. FirstStop (f k) name) (sym same) here))
         | inr other ↦
             let rest : FirstStop (flat_map f (filter p (range_with_len (a + 1) n))) name = range_stops (a + 1) n m name (omega arith) (omega arith) is_true (λ i from to. before i (omega arith) to) here in
             elim (cases_Bool (p a)) [
-              | inl passes ↦ subst (λ b. FirstStop (flat_map f (cond b (a ∷ filter p (range_with_len (a + 1) n)) (filter p (range_with_len (a + 1) n)))) name) (sym passes) (stop_behind (f a) (flat_map f (filter p (range_with_len (a + 1) n))) name (before a (omega arith) (omega arith) passes) rest)
+              | inl passes ↦ subst (λ b. FirstStop (flat_map f (cond b (a ∷ filter p (range_with_len (a + 1) n)) (filter p (range_with_len (a + 1) n)))) name) (sym passes) (stop_after (f a) (flat_map f (filter p (range_with_len (a + 1) n))) name (before a (omega arith) (omega arith) passes) rest)
               | inr fails ↦ subst (λ b. FirstStop (flat_map f (cond b (a ∷ filter p (range_with_len (a + 1) n)) (filter p (range_with_len (a + 1) n)))) name) (sym fails) rest
             ]
       ]
@@ -143,9 +143,9 @@ module _ (limit n : ℕ) (d : Dictionary) (q k : ℕ) where
 
   pair_stops : (i c : ℕ) (p : Part) → Misfits limit (d.numbers i c) (entry_at d i q) (divided_entry d q k c) p → FirstStop (step_pair i c) (Exchange n (i + 1) c (part_number p))
   pair_stops i c part.Product h =
-      stop_in_front ((Exchange n (i + 1) c 0, product_fits limit (entry_at d i q) (divided_entry d q k c)) ∷ []) ((Exchange n (i + 1) c 1, difference_fits limit (d.numbers i c) (entry_at d i q *ℚ divided_entry d q k c)) ∷ []) (Exchange n (i + 1) c 0) (one_stops (Exchange n (i + 1) c 0) _ h)
+      stop_in_prefix ((Exchange n (i + 1) c 0, product_fits limit (entry_at d i q) (divided_entry d q k c)) ∷ []) ((Exchange n (i + 1) c 1, difference_fits limit (d.numbers i c) (entry_at d i q *ℚ divided_entry d q k c)) ∷ []) (Exchange n (i + 1) c 0) (one_stops (Exchange n (i + 1) c 0) _ h)
   pair_stops i c part.Difference h =
-      stop_behind ((Exchange n (i + 1) c 0, product_fits limit (entry_at d i q) (divided_entry d q k c)) ∷ []) ((Exchange n (i + 1) c 1, difference_fits limit (d.numbers i c) (entry_at d i q *ℚ divided_entry d q k c)) ∷ []) (Exchange n (i + 1) c 1)
+      stop_after ((Exchange n (i + 1) c 0, product_fits limit (entry_at d i q) (divided_entry d q k c)) ∷ []) ((Exchange n (i + 1) c 1, difference_fits limit (d.numbers i c) (entry_at d i q *ℚ divided_entry d q k c)) ∷ []) (Exchange n (i + 1) c 1)
       (one_fits (Exchange n (i + 1) c 0, product_fits limit (entry_at d i q) (divided_entry d q k c)) h.0) (one_stops (Exchange n (i + 1) c 1) _ h.1)
 
   other_row_fits : (i : ℕ) → ((c : ℕ) → Steps i c) → AllFit (other_row_steps limit n d q k i)
@@ -167,9 +167,9 @@ module _ (limit n : ℕ) (d : Dictionary) (q k : ℕ) where
   -- the first step that does not fit is in the row that is divided, or in another
   pub exchange_stops_first : (m : ℕ) → m < d.variables + 2 → ((c : ℕ) → c < m → quotient_fits limit (d.numbers k c) (entry_at d k q) ≡ true) → quotient_fits limit (d.numbers k m) (entry_at d k q) ≡ false → FirstStop (exchange_steps limit n d q k) (Exchange n (k + 1) m 0)
   exchange_stops_first m within before is_false =
-      stop_in_front (pivot_row_steps limit n d q k) (flat_map (other_row_steps limit n d q k) (filter (λ i. not (i == k)) (range_with_len 0 (length d.basic + 1)))) (Exchange n (k + 1) m 0) (pivot_row_stops m within before is_false)
+      stop_in_prefix (pivot_row_steps limit n d q k) (flat_map (other_row_steps limit n d q k) (filter (λ i. not (i == k)) (range_with_len 0 (length d.basic + 1)))) (Exchange n (k + 1) m 0) (pivot_row_stops m within before is_false)
 
   pub exchange_stops : (i m : ℕ) (p : Part) → i < length d.basic + 1 → i ≢ k → m < d.variables + 2 → ((c : ℕ) → quotient_fits limit (d.numbers k c) (entry_at d k q) ≡ true) → ((j : ℕ) → j < i → j ≢ k → (c : ℕ) → Steps j c) → ((c : ℕ) → c < m → Steps i c) → Misfits limit (d.numbers i m) (entry_at d i q) (divided_entry d q k m) p → FirstStop (exchange_steps limit n d q k) (Exchange n (i + 1) m (part_number p))
   exchange_stops i m p there other within row others before h =
-      stop_behind (pivot_row_steps limit n d q k) (flat_map (other_row_steps limit n d q k) (filter (λ j. not (j == k)) (range_with_len 0 (length d.basic + 1)))) (Exchange n (i + 1) m (part_number p)) (pivot_row_fits row)
+      stop_after (pivot_row_steps limit n d q k) (flat_map (other_row_steps limit n d q k) (filter (λ j. not (j == k)) (range_with_len 0 (length d.basic + 1)))) (Exchange n (i + 1) m (part_number p)) (pivot_row_fits row)
       (range_stops (other_row_steps limit n d q k) (λ j. not (j == k)) 0 (length d.basic + 1) i (Exchange n (i + 1) m (part_number p)) (omega arith) (omega arith) (not_from_false (i == k) (ne_eqb i k other)) (λ j low high passes. other_row_fits j (others j high (is_other j passes))) (other_row_stops i m p within before h))

@@ -28,7 +28,7 @@ use Rattle.lp_fraction_dict.proofs.Kept.{get_within, index_default, index_past}
 use Rattle.lp_fraction_dict.proofs.Equations.{eq_same, eq_other, meets_after, meets_before}
 use Rattle.lp_fraction_dict.proofs.Steps.{exchange_fits, exchange_stops_first, exchange_stops}
 use Rattle.lp_fraction_dict.proofs.OfForm.{of_form_after}
-use Rattle.lp_fraction_dict.proofs.Proper.{leaves_at, leaves_is, place_within, pivot_some, enters_there, proper_after, none_due}
+use Rattle.lp_fraction_dict.proofs.Proper.{leaves_at, leaves_is, place_within, pivot_some, enters_there, proper_after, none_required}
 
 -- ---- the numbers of an exchange, and its steps
 
@@ -222,8 +222,8 @@ module _ {F : Type 0} (value : F → Number) (limit : ℕ) (t : FractionTableau 
         proper = subst IsProper (sym pivoted_is) (proper_after (fraction_dictionary value t) p k inv.proper legal);
       }
 
-  pub pivoted_not_due : ¬ (OpeningIsRequired (fraction_dictionary value after))
-  pivoted_not_due required = none_due (fraction_dictionary value t) p k inv.proper legal (subst OpeningIsRequired pivoted_is required)
+  pub pivoted_not_required : ¬ (OpeningIsRequired (fraction_dictionary value after))
+  pivoted_not_required required = none_required (fraction_dictionary value t) p k inv.proper legal (subst OpeningIsRequired pivoted_is required)
 
   pub pivoted_same : (x : List Number) (objective : Number) → (p.leave ≡ 0 → value_of_column x 0 ≡ whole (pos 0)) → Meets (fraction_dictionary value t) x objective ↔ Meets (fraction_dictionary value after) x objective
   pivoted_same x objective gone =
@@ -258,14 +258,14 @@ module _ {F : Type 0} (value : F → Number) (limit : ℕ) (t : FractionTableau 
   abbrev pub IsFault : ℕ → ℕ → Part → Type 0
   IsFault i column q = (i ≤ length t.rows) × (column < t.variables + 2) × IsFirstTurn value limit (t.variables + 2) (line t.rows t.objective) place (p.enter + 1) i column q
 
-  pub fault_room : (f : LineFault) → InLine IsFault f → InLine (λ i column q. i + 1 < 2 ^ 32) f
-  fault_room (line_fault_of.Limit i column q) h =
+  pub fault_bound : (f : LineFault) → InLine IsFault f → InLine (λ i column q. i + 1 < 2 ^ 32) f
+  fault_bound (line_fault_of.Limit i column q) h =
       let few = inv.few in
       let sized = inv.sized in
       let paired = inv.paired in
       let within = h.0 in
       omega arith
-  fault_room line_fault_of.Memory h = tt
+  fault_bound line_fault_of.Memory h = tt
 
   pub fault_stops : (n : ℕ) (f : LineFault) (stop : Stop) → InLine IsFault f → stop ≡ stop_of n f → (k : ℕ) → slice_get t.basic k ≡ Some p.leave → StopsAtStep (exchange_steps limit n (fraction_dictionary value t) p.enter k) stop
   fault_stops n (line_fault_of.Limit i column q) stop h is k there =
@@ -307,5 +307,5 @@ module _ {F : Type 0} (value : F → Number) (limit : ℕ) (t : FractionTableau 
         subst (IsDictionaryOf s) (sym (pivoted_is value limit t p place after inv legal_here made))
         (of_form_after s (fraction_dictionary value t) p place inv.proper legal_here (λ x goal gone. subst (λ e. Meets (fraction_dictionary value t) x goal ↔ Meets e x goal) (pivoted_is value limit t p place after inv legal_here made) (same_points x goal gone)) h)
 
-    pub is_not_due : ¬ (OpeningIsRequired (fraction_dictionary value after))
-    is_not_due = pivoted_not_due value limit t p place after inv legal_here made
+    pub is_not_required : ¬ (OpeningIsRequired (fraction_dictionary value after))
+    is_not_required = pivoted_not_required value limit t p place after inv legal_here made

@@ -11,7 +11,7 @@ use Rattle.lp_form.proofs.Zeros.{sum_fits-zero, zero-sum_fits, fits-zero}
 use Rattle.lp_fraction_dict.specs.declared.row.Entry.{Entry}
 use Rattle.lp_fraction_dict.specs.declared.fault.Part.{Part}
 use Rattle.lp_fraction_dict.specs.Rows.{IsRow, number_in, StartsFrom, StartsAt, IsNextColumn, SplitsAt, number_or_zero, StepsFit, Misfits, Lessens, PushesUnlessZero, IsLessened, IsFirstMisfit}
-use Rattle.lp_fraction_dict.proofs.Rows.{number_first, number_later, number_below, number_above, row_from, row_to, number_behind, number_before, row_pushed}
+use Rattle.lp_fraction_dict.proofs.Rows.{number_first, number_later, number_below, number_above, row_from, row_to, number_after, number_before, row_pushed}
 
 not_at : (a m : ℕ) → a ≢ m → m ≤ a → m + 1 ≤ a
 not_at a m other from = omega arith
@@ -79,7 +79,7 @@ starts_within value (e ∷ es) k high m h starts =
 pub pushed_here : {F : Type 0} (value : F → Number) (made now : List (Entry F)) (k m : ℕ) (z : F) → IsRow value 0 k made → k ≤ m → PushesUnlessZero value m z made now → number_in value now m ≡ value z
 pushed_here value made now k m z h more pushed =
     elim pushed [
-      | inl p ↦ ap (λ r. number_in value r m) p.1 ∙ number_behind value made (record { column = m; number = z } ∷ []) 0 k m h more ∙ number_first value (record { column = m; number = z }) [] m refl
+      | inl p ↦ ap (λ r. number_in value r m) p.1 ∙ number_after value made (record { column = m; number = z } ∷ []) 0 k m h more ∙ number_first value (record { column = m; number = z }) [] m refl
       | inr p ↦ ap (λ r. number_in value r m) p.1 ∙ number_above value made 0 k m h more ∙ sym p.0
     ]
 
@@ -114,8 +114,8 @@ zeros_fit : (limit : ℕ) (x y factor : Number) → 1 ≤ limit → x ≡ whole 
 zeros_fit limit x y factor some e f = rw (e, f) (zero_steps_fit limit (whole (pos 0)) factor some (fits-zero limit some))
 
 module _ {F : Type 0} (value : F → Number) (limit high : ℕ) (row : List (Entry F)) (factor : Number) (other : List (Entry F)) (some : 1 ≤ limit) where
-  pub walk_begins : IsRow value 0 high row → IsRow value 0 high other → Walking value limit high row factor other row other []
-  walk_begins h g =
+  pub traversal_begins : IsRow value 0 high row → IsRow value 0 high other → Walking value limit high row factor other row other []
+  traversal_begins h g =
       record {
         column = 0;
         within = omega arith;
@@ -150,8 +150,8 @@ module _ {F : Type 0} (value : F → Number) (limit high : ℕ) (row : List (Ent
           | inr more ↦ zeros_fit limit (number_in value row c) (number_in value other c) factor some (row_passed.before c more to) (other_passed.before c more to)
         ]
 
-    pub walk_misfits : (p : Part) → Misfits limit (number_or_zero value x) factor (number_or_zero value y) p → IsFirstMisfit value limit high row factor other m p
-    walk_misfits p h =
+    pub traversal_misfits : (p : Part) → Misfits limit (number_or_zero value x) factor (number_or_zero value y) p → IsFirstMisfit value limit high row factor other m p
+    traversal_misfits p h =
         record {
           within = bounds.1;
           before = fit_before;
@@ -173,8 +173,8 @@ module _ {F : Type 0} (value : F → Number) (limit high : ℕ) (row : List (Ent
       fit_at_m : StepsFit limit (number_in value row m) factor (number_in value other m)
       fit_at_m = subst₂ (λ a b. StepsFit limit a factor b) (sym row_passed.here) (sym other_passed.here) fits_here
 
-      pub walk_goes : Walking value limit high row factor other left_after right_after now
-      walk_goes =
+      pub traversal_goes : Walking value limit high row factor other left_after right_after now
+      traversal_goes =
           let most = bounds.1 in
           record {
             column = m + 1;
@@ -192,8 +192,8 @@ module _ {F : Type 0} (value : F → Number) (limit high : ℕ) (row : List (Ent
             ];
           }
 
-  pub walk_ends : (left right made : List (Entry F)) → Walking value limit high row factor other left right made → IsNextColumn left right None → IsLessened value limit high row factor other made
-  walk_ends left right made w next =
+  pub traversal_ends : (left right made : List (Entry F)) → Walking value limit high row factor other left right made → IsNextColumn left right None → IsLessened value limit high row factor other made
+  traversal_ends left right made w next =
       let row_zero : (c : ℕ) → w.column ≤ c → number_in value row c ≡ whole (pos 0) = λ c more. w.left.numbers c more ∙ ap (λ r. number_in value r c) next.0 in
       let other_zero : (c : ℕ) → w.column ≤ c → number_in value other c ≡ whole (pos 0) = λ c more. w.right.numbers c more ∙ ap (λ r. number_in value r c) next.1 in
       record {
@@ -217,8 +217,8 @@ splits_shorter : {F : Type 0} (rest after : List (Entry F)) (m : ℕ) (x : Optio
 splits_shorter rest after m (Some x) split starts = let same = ap length split in omega arith
 splits_shorter rest after m None split starts = absurd (split.1 starts)
 
-pub walk_shrinks : {F : Type 0} (left right left_after right_after : List (Entry F)) (m : ℕ) (x y : Option F) → IsNextColumn left right (Some m) → SplitsAt left m x left_after → SplitsAt right m y right_after → length left_after + length right_after < length left + length right
-walk_shrinks left right left_after right_after m x y next left_splits right_splits =
+pub traversal_shrinks : {F : Type 0} (left right left_after right_after : List (Entry F)) (m : ℕ) (x y : Option F) → IsNextColumn left right (Some m) → SplitsAt left m x left_after → SplitsAt right m y right_after → length left_after + length right_after < length left + length right
+traversal_shrinks left right left_after right_after m x y next left_splits right_splits =
     let a = splits_length left left_after m x left_splits in
     let b = splits_length right right_after m y right_splits in
     elim next.2 [

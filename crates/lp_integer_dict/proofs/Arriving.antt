@@ -49,8 +49,8 @@ module _ (bound column place leaving : ℕ) (before after : List Line) (plans : 
         ];
       }
 
-  room_after : (y : Line) → leaving ≢ place → slice_get after leaving ≡ Some y → DeferredStaysWithin leaving y after bound
-  room_after y apart at =
+  bound_after : (y : Line) → leaving ≢ place → slice_get after leaving ≡ Some y → DeferredStaysWithin leaving y after bound
+  bound_after y apart at =
       let first = from leaving y at in
       let keeps : DeferredStaysWithinAfter leaving first.p first.x first.f before plans bound = roomy.within_bound first.p first.x first.f apart first.p_at first.x_at first.f_at in
       record {
@@ -77,7 +77,7 @@ module _ (bound column place leaving : ℕ) (before after : List Line) (plans : 
               let low = o.is.most in
               let high = o.most in
               omega arith;
-          others = room_after;
+          others = bound_after;
         };
       }
 

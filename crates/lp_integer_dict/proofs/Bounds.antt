@@ -226,15 +226,15 @@ module _ (limit : ℕ) (ni nk f p : ℤ) (di dk mi mk : ℕ) (above_i : 0 < di) 
       let extended : nat_abs b * nat_abs nk ≤ nat_abs b * mk = mul-le-mul_left (nat_abs b) top_k in
       omega arith
 
-  front_within : nat_abs prefix ≤ nat_abs a * mi
-  front_within =
+  prefix_within : nat_abs prefix ≤ nat_abs a * mi
+  prefix_within =
       let is : nat_abs prefix ≡ nat_abs ni * nat_abs a = nat_abs-*ℤ ni (pos (nat_abs a)) in
       let extended : nat_abs a * nat_abs ni ≤ nat_abs a * mi = mul-le-mul_left (nat_abs a) top_i in
       let same = mul_comm (nat_abs ni) (nat_abs a) in
       omega arith
 
-  front_means : Means (ratio ni di) prefix low
-  front_means = means_same (ratio_means ni di above_i) (mul-pos above_i some_a) (moved ni di (nat_abs a))
+  prefix_means : Means (ratio ni di) prefix low
+  prefix_means = means_same (ratio_means ni di above_i) (mul-pos above_i some_a) (moved ni di (nat_abs a))
 
   pub pair_product : product_fits limit (ratio f di) (ratio nk dk /ℚ ratio p dk) ≡ true
   pair_product =
@@ -248,7 +248,7 @@ module _ (limit : ℕ) (ni nk f p : ℤ) (di dk mi mk : ℕ) (above_i : 0 < di) 
       let within_bound = h.within_bound in
       let one = top_within in
       let two = low_within in
-      let three = front_within in
+      let three = prefix_within in
       let other : nat_abs (neg_ℤ top) ≡ nat_abs top = nat_abs-neg top in
       let total = sum_within prefix (neg_ℤ top) in
-      sum_fits_by_means limit (ratio ni di) (neg_ℚ (ratio f di *ℚ (ratio nk dk /ℚ ratio p dk))) prefix (neg_ℤ top) low front_means (means-neg_ℚ product_means) (omega arith) (omega arith) (omega arith) (omega arith)
+      sum_fits_by_means limit (ratio ni di) (neg_ℚ (ratio f di *ℚ (ratio nk dk /ℚ ratio p dk))) prefix (neg_ℤ top) low prefix_means (means-neg_ℚ product_means) (omega arith) (omega arith) (omega arith) (omega arith)

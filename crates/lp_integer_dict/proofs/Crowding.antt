@@ -49,9 +49,9 @@ module _ (width bound : ℕ) (before after : List Line) (are : AreLines width be
         };
       }
 
-  pub same_room : (o : Option ℕ) → RowsStayWithin o before bound → RowsStayWithin o after bound
-  same_room None h = same_bounded before after s bound h
-  same_room (Some k) h = same_putoff k h
+  pub same_bound : (o : Option ℕ) → RowsStayWithin o before bound → RowsStayWithin o after bound
+  same_bound None h = same_bounded before after s bound h
+  same_bound (Some k) h = same_putoff k h
 
 module _ (t : WholeTableau) (w : IsWhole t) (lines : List Line) (s : AreSameLines t.lines lines) where
   abbrev pub tableau_same : WholeTableau
@@ -75,7 +75,7 @@ module _ (t : WholeTableau) (w : IsWhole t) (lines : List Line) (s : AreSameLine
           are_lines = same_are t.lines lines s (t.variables + 2) w.are_whole.are_lines;
           wide = w.are_whole.wide;
           small = w.are_whole.small;
-          within_bound = same_room (t.variables + 2) t.bound t.lines lines w.are_whole.are_lines s t.deferred w.are_whole.within_bound;
+          within_bound = same_bound (t.variables + 2) t.bound t.lines lines w.are_whole.are_lines s t.deferred w.are_whole.within_bound;
         };
         is_deferred = w.is_deferred;
         proper = subst IsProper (sym dictionary_same) w.proper;
@@ -147,8 +147,8 @@ module _ (t : WholeTableau) (w : IsWhole t) (p : Pivot) (k : ℕ) (legal : IsLeg
         ∙ ap (λ v. turned_at d.numbers (v + 1) k i c) (sym opens)
         ∙ sym (stays_numbers t w p k legal (plain_stays t w p k legal opens_plain) i c)
 
-    opens_room : IsDeferred k lines t.bound
-    opens_room =
+    opens_bound : IsDeferred k lines t.bound
+    opens_bound =
         let has = within_bound before_at.0 before_at.1 in
         record {
           pivot = after_at.0;
@@ -173,5 +173,5 @@ module _ (t : WholeTableau) (w : IsWhole t) (p : Pivot) (k : ℕ) (legal : IsLeg
     pub after_open : IsAfter t w p k legal lines (Some k)
     after_open =
         after_is t w p k legal lines (Some k) r.sized
-        (record { are_lines = opens_are; wide = w.are_whole.wide; small = w.are_whole.small; within_bound = opens_room })
+        (record { are_lines = opens_are; wide = w.are_whole.wide; small = w.are_whole.small; within_bound = opens_bound })
         (set_same t.basic k p.enter (k_in t w p k legal) ∙ ap Some opens) opens_same

@@ -175,7 +175,7 @@ lowest_fit lines o leaving column bound i row last m k h =
 
 pub crowded_of : (lines : List Line) (o : Option ℕ) (leaving column bound i : ℕ) (row last : Measure) → i < length lines → i ≢ leaving → IsLowestRow lines o i column row → IsLowestRow lines o leaving column last → PairExceeds row.number last.number row.most last.most bound → IsSomePairCrowded lines o leaving column bound
 crowded_of lines o leaving column bound i row last within other m k h =
-    record { at = i; within = within; other = other; row = row; row_leaving = last; row_is = m; leaving_is = k; no_room = h }
+    record { at = i; within = within; other = other; row = row; row_leaving = last; row_is = m; leaving_is = k; no_bound = h }
 
 pub fit_more : (lines : List Line) (o : Option ℕ) (leaving column bound n : ℕ) → ArePairsFit lines o leaving column bound n → (n ≢ leaving → IsPairFit lines o leaving column bound n) → ArePairsFit lines o leaving column bound (n + 1)
 fit_more lines o leaving column bound n h here i less other = elim (cases_eq i n) [
@@ -184,12 +184,12 @@ fit_more lines o leaving column bound n h here i less other = elim (cases_eq i n
 ]
 
 -- two rows stay within the bound by their integers as they are, without a common factor
-pub room_plain : (f p : ℤ) (most other bound : ℕ) → nat_abs p * most + nat_abs f * other ≤ bound → IsPairWithin f p most other bound
-room_plain f p most other bound within_bound =
+pub bound_plain : (f p : ℤ) (most other bound : ℕ) → nat_abs p * most + nat_abs f * other ≤ bound → IsPairWithin f p most other bound
+bound_plain f p most other bound within_bound =
     record { of_row = p; of_leaving = f; shared = 1; positive = omega arith; first = times_one p; second = times_one f; within_bound = within_bound }
 
-pub room_shared : (f p a b : ℤ) (most other bound : ℕ) → AreFactors f p a b → nat_abs a * most + nat_abs b * other ≤ bound → IsPairWithin f p most other bound
-room_shared f p a b most other bound h within_bound =
+pub bound_shared : (f p a b : ℤ) (most other bound : ℕ) → AreFactors f p a b → nat_abs a * most + nat_abs b * other ≤ bound → IsPairWithin f p most other bound
+bound_shared f p a b most other bound h within_bound =
     record { of_row = a; of_leaving = b; shared = h.shared; positive = h.positive; first = h.first; second = h.second; within_bound = within_bound }
 
 pub found_within : (o : Option ℕ) (n bound : ℕ) → MatchOption o (bound < n) (λ s. (s ≡ n) × (s ≤ bound)) → IsTrue (is_some o) → n ≤ bound
@@ -257,7 +257,7 @@ roomy_fits lines o width bound leaving column w within h i less other =
       most_leaving = row_most o lines leaving;
       row = row_at lines o bound i column row;
       row_leaving = row_at lines o bound leaving column last;
-      within_bound = room_plain (row.number column) (last.number column) (row_most o lines i) (row_most o lines leaving) bound (omega arith);
+      within_bound = bound_plain (row.number column) (last.number column) (row_most o lines i) (row_most o lines leaving) bound (omega arith);
     }
 
 -- ---- the steps of an exchange

@@ -301,27 +301,27 @@ module _ (t : WholeTableau) (w : IsWhole t) (p : Pivot) (k : ℕ) (legal : IsLeg
       abbrev first : Line
       first = raised_there.0
 
-      first_room : DeferredStaysWithin k first mid t.bound
-      first_room = h.within_bound.others first apart (sym s.first ∙ raised_there.1)
+      first_bound : DeferredStaysWithin k first mid t.bound
+      first_bound = h.within_bound.others first apart (sym s.first ∙ raised_there.1)
 
       -- a line of the others that came from the place i
-      line_room : (i : ℕ) (l : Line) → i ≢ k → slice_get mid i ≡ Some l → l.most * nat_abs (whole_at (wholes lines_there.0) 1) + nat_abs (whole_at (wholes l) 1) * lines_there.0.most ≤ t.bound
-      line_room i l not_k at =
-          subst₂ (λ u m. l.most * u + nat_abs (whole_at (wholes l) 1) * m ≤ t.bound) (sym (raised.magnitudes 1)) (sym raised.most) (first_room.others i l not_k at)
+      line_bound : (i : ℕ) (l : Line) → i ≢ k → slice_get mid i ≡ Some l → l.most * nat_abs (whole_at (wholes lines_there.0) 1) + nat_abs (whole_at (wholes l) 1) * lines_there.0.most ≤ t.bound
+      line_bound i l not_k at =
+          subst₂ (λ u m. l.most * u + nat_abs (whole_at (wholes l) 1) * m ≤ t.bound) (sym (raised.magnitudes 1)) (sym raised.most) (first_bound.others i l not_k at)
 
-      other_room : IsDeferred z lines t.bound
-      other_room =
+      other_bound : IsDeferred z lines t.bound
+      other_bound =
           record {
             pivot = lines_there.0;
             there = lines_there.1;
             above = raised.above;
             within_bound = record {
-              own = subst (λ m. m ≤ t.bound) (sym raised.most) first_room.own;
+              own = subst (λ m. m ≤ t.bound) (sym raised.most) first_bound.own;
               others = λ i l not_z at.
                   let in_swap : slice_get swap i ≡ Some l = sym (r.others i not_z) ∙ at in
                   elim (cases_eq i k) [
-                    | inl at_k ↦ line_room z l (λ e. apart (sym e)) (sym s.second ∙ subst (λ j. slice_get swap j ≡ Some l) at_k in_swap)
-                    | inr not_k ↦ line_room i l not_k (sym (s.others i not_z not_k) ∙ in_swap)
+                    | inl at_k ↦ line_bound z l (λ e. apart (sym e)) (sym s.second ∙ subst (λ j. slice_get swap j ≡ Some l) at_k in_swap)
+                    | inr not_k ↦ line_bound i l not_k (sym (s.others i not_z not_k) ∙ in_swap)
                   ];
             };
           }
@@ -350,7 +350,7 @@ module _ (t : WholeTableau) (w : IsWhole t) (p : Pivot) (k : ℕ) (legal : IsLeg
           ]
 
       other_whole : AreWhole lines (Some z) (t.variables + 2) t.bound
-      other_whole = record { are_lines = other_are; wide = w.are_whole.wide; small = w.are_whole.small; within_bound = other_room }
+      other_whole = record { are_lines = other_are; wide = w.are_whole.wide; small = w.are_whole.small; within_bound = other_bound }
 
       pub after_other : IsAfter lines (Some z)
       after_other = after_is lines (Some z) other_sized other_whole (set_other t.basic k z p.enter (λ e. apart (sym e)) ∙ z_at) other_same

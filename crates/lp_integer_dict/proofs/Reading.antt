@@ -133,14 +133,14 @@ module _ (lines : List Line) (k width bound : ℕ) (w : AreWhole lines (Some k) 
       let second = of_pivot.numbers_within 1 in
       (omega arith, omega arith)
 
-  pub room_at : (b i : ℕ) (l : Line) → RowsStayWithin (Some k) lines b → i ≢ k → slice_get lines i ≡ Some l → l.most * v + nat_abs (whole_at (wholes l) 1) * p.most ≤ b
-  room_at b i l h other there =
+  pub bound_at : (b i : ℕ) (l : Line) → RowsStayWithin (Some k) lines b → i ≢ k → slice_get lines i ≡ Some l → l.most * v + nat_abs (whole_at (wholes l) 1) * p.most ≤ b
+  bound_at b i l h other there =
       let same : h.pivot ≡ p = same_some h.pivot p (sym h.there ∙ w.within_bound.there) in
       subst (λ (t : Line). l.most * nat_abs (whole_at (wholes t) 1) + nat_abs (whole_at (wholes l) 1) * t.most ≤ b) same (h.within_bound.others i l other there)
 
   pub other_within : (b i c : ℕ) (l : Line) → RowsStayWithin (Some k) lines b → i ≢ k → slice_get lines i ≡ Some l → (nat_abs (whole_at (wholes p) 1 *ℤ whole_at (wholes l) c -ℤ whole_at (wholes l) 1 *ℤ whole_at (wholes p) c) ≤ b) × (v * l.denominator ≤ b)
   other_within b i c l h other there =
-      let within_bound = room_at b i l h other there in
+      let within_bound = bound_at b i l h other there in
       let of_line = (w.are_lines i l there).0 in
       let top = top_within l p of_line of_pivot c in
       let low = low_within l p of_line of_pivot in

@@ -28,8 +28,8 @@ module _ (width bound column place : ℕ) (lines : List Line) (plans : List Fact
   pub plans_sized : length plans ≡ length lines
   plans_sized = h.planned.sized
 
-  own_room : (m n : ℕ) → m ≡ 1 * m + 0 * n
-  own_room m n = omega arith
+  own_bound : (m n : ℕ) → m ≡ 1 * m + 0 * n
+  own_bound m n = omega arith
 
   most_weighed : (i : ℕ) (l : Line) (f : Factors) → slice_get lines i ≡ Some l → slice_get plans i ≡ Some f → (f.most < 2 ^ 127) × (nat_abs f.line * l.most + nat_abs f.pivot * p.most ≤ 2 ^ 127 - 1)
   most_weighed i l f there by = elim (cases_eq i place) [
@@ -37,7 +37,7 @@ module _ (width bound column place : ℕ) (lines : List Line) (plans : List Fact
         let f_is : f ≡ own_factors p = h.planned.own f (subst (λ k. slice_get plans k ≡ Some f) same by) in
         let l_is : p ≡ l = same_some p l (sym p_there ∙ subst (λ k. slice_get lines k ≡ Some l) same there) in
         let small = (are place p p_there).0.small in
-        let total = own_room p.most p.most in
+        let total = own_bound p.most p.most in
         let fits : 1 * p.most + 0 * p.most ≤ 2 ^ 127 - 1 = omega arith in (
           subst (λ (g : Factors). g.most < 2 ^ 127) (sym f_is) small,
           subst (λ (g : Factors). nat_abs g.line * l.most + nat_abs g.pivot * p.most ≤ 2 ^ 127 - 1) (sym f_is) (subst (λ (t : Line). 1 * t.most + 0 * p.most ≤ 2 ^ 127 - 1) l_is fits),
@@ -89,12 +89,12 @@ module _ (width bound column place : ℕ) (lines : List Line) (plans : List Fact
       omega arith
 
 -- the first n rows stay within the bound
-abbrev pub RoomBelow : ℕ → ℕ → Line → Factors → ℕ → List Line → List Factors → ℕ → Type 0
-RoomBelow n leaving p g u lines plans bound =
+abbrev pub BoundBelow : ℕ → ℕ → Line → Factors → ℕ → List Line → List Factors → ℕ → Type 0
+BoundBelow n leaving p g u lines plans bound =
     (i : ℕ) (x : Line) (f : Factors) → i < n → i ≢ leaving → slice_get lines i ≡ Some x → slice_get plans i ≡ Some f → f.most * u + zero_after x p f * g.most ≤ bound
 
-pub room_more : (n leaving : ℕ) (p : Line) (g : Factors) (u : ℕ) (lines : List Line) (plans : List Factors) (bound : ℕ) (x : Line) (f : Factors) → RoomBelow n leaving p g u lines plans bound → slice_get lines n ≡ Some x → slice_get plans n ≡ Some f → (n ≢ leaving → f.most * u + zero_after x p f * g.most ≤ bound) → RoomBelow (n + 1) leaving p g u lines plans bound
-room_more n leaving p g u lines plans bound x f h at by here i y e less other there on =
+pub bound_more : (n leaving : ℕ) (p : Line) (g : Factors) (u : ℕ) (lines : List Line) (plans : List Factors) (bound : ℕ) (x : Line) (f : Factors) → BoundBelow n leaving p g u lines plans bound → slice_get lines n ≡ Some x → slice_get plans n ≡ Some f → (n ≢ leaving → f.most * u + zero_after x p f * g.most ≤ bound) → BoundBelow (n + 1) leaving p g u lines plans bound
+bound_more n leaving p g u lines plans bound x f h at by here i y e less other there on =
     elim (cases_eq i n) [
       | inl same ↦
           let x_is : x ≡ y = same_some x y (sym at ∙ subst (λ k. slice_get lines k ≡ Some y) same there) in

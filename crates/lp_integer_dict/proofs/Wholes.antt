@@ -159,8 +159,8 @@ module _ (variables : ℕ) (basic : List ℕ) (lines : List Line) (bound : ℕ) 
     pivot_is : n k 1 ≡ pos (nat_abs (whole_at (wholes p) 1))
     pivot_is = ap (λ (l : Line). whole_at (wholes l) 1) own_line ∙ (let h = w.are_whole.within_bound.above in omega (arith, ints))
 
-    room_above : DeferredNumbersWithin n e m bound k (nat_abs (whole_at (wholes p) 1))
-    room_above =
+    bound_above : DeferredNumbersWithin n e m bound k (nat_abs (whole_at (wholes p) 1))
+    bound_above =
         record {
           pivot = pivot_is;
           above = some_v lines k (variables + 2) bound w.are_whole;
@@ -192,7 +192,7 @@ module _ (variables : ℕ) (basic : List ℕ) (lines : List Line) (bound : ℕ) 
 
     bounded_off : IsBounded (whole_dictionary variables basic lines (Some k)) bound
     bounded_off =
-        bounded_above n e m bound k (nat_abs (whole_at (wholes p) 1)) room_above (whole_dictionary variables basic lines (Some k)) (subst (λ f. IsDeferredExchange (whole_dictionary variables basic lines (Some k)) f k) kept_same is_above)
+        bounded_above n e m bound k (nat_abs (whole_at (wholes p) 1)) bound_above (whole_dictionary variables basic lines (Some k)) (subst (λ f. IsDeferredExchange (whole_dictionary variables basic lines (Some k)) f k) kept_same is_above)
 
 pub bounded : (t : WholeTableau) → IsWhole t → IsBounded (integer_dictionary t) t.bound
 bounded t w = bounded_of t.variables t.basic t.lines t.deferred t.bound (record { sized = w.sized; paired = w.paired; are_whole = w.are_whole; is_deferred = w.is_deferred; proper = w.proper })

@@ -25,7 +25,7 @@ pub record ReducedPairExceeds (f p : ℤ) (most other limit : ℕ) : Type 0 wher
   pub of_row : ℤ
   pub of_leaving : ℤ
   pub factors : AreFactors f p of_row of_leaving
-  pub no_room : limit < nat_abs of_row * most + nat_abs of_leaving * other
+  pub no_bound : limit < nat_abs of_row * most + nat_abs of_leaving * other
 
 -- Two rows exceed the bound: by their integers as they are, and also without their greatest common
 -- divisor if the integer of the leaving variable is above 0.
@@ -91,4 +91,4 @@ pub record IsSomePairCrowded (lines : List Line) (deferred : Option ℕ) (leavin
   pub row_leaving : Measure
   pub row_is : IsLowestRow lines deferred at column row
   pub leaving_is : IsLowestRow lines deferred leaving column row_leaving
-  pub no_room : PairExceeds row.number row_leaving.number row.most row_leaving.most bound
+  pub no_bound : PairExceeds row.number row_leaving.number row.most row_leaving.most bound

@@ -48,7 +48,7 @@ pub record IsCrowded (bound column : ℕ) (line pivot : Line) : Type 0 where
   pub of_line : ℤ
   pub of_pivot : ℤ
   pub factors : AreFactors (whole_at (wholes line) column) (whole_at (wholes pivot) column) of_line of_pivot
-  pub no_room : bound < nat_abs of_line * line.most + nat_abs of_pivot * pivot.most
+  pub no_bound : bound < nat_abs of_line * line.most + nat_abs of_pivot * pivot.most
 
 -- A row is within its factors: its integers do not exceed their magnitude, and no integer exceeds
 -- the one they make.

@@ -21,13 +21,13 @@ difference_within : (u v : ℤ) → nat_abs (u -ℤ v) ≤ nat_abs u + nat_abs v
 difference_within u v = omega (arith, ints)
 
 -- the steps on one number stay below 2^127
-pub record StepsHaveRoom (a b n x : ℤ) : Type 0 where
+pub record StepsHaveBound (a b n x : ℤ) : Type 0 where
   pub first : nat_abs (a *ℤ n) < 2 ^ 127
   pub second : nat_abs (b *ℤ x) < 2 ^ 127
   pub left : nat_abs (a *ℤ n -ℤ b *ℤ x) < 2 ^ 127
 
-pub steps_have_room : (a b n x : ℤ) → nat_abs a * nat_abs n + nat_abs b * nat_abs x < 2 ^ 127 → StepsHaveRoom a b n x
-steps_have_room a b n x h =
+pub steps_have_bound : (a b n x : ℤ) → nat_abs a * nat_abs n + nat_abs b * nat_abs x < 2 ^ 127 → StepsHaveBound a b n x
+steps_have_bound a b n x h =
     let e = nat_abs-*ℤ a n in
     let f = nat_abs-*ℤ b x in
     let k = difference_within (a *ℤ n) (b *ℤ x) in

@@ -20,7 +20,7 @@ use Rattle.lp_fraction_dict.proofs.Lists.{place_is}
 use Rattle.lp_nocycle.specs.Cycling.{SameBasic}
 use Rattle.lp_nocycle.specs.PivotCount.{twice_sets}
 use Rattle.lp_nocycle.specs.Turns.{pivots_by_turn}
-use Rattle.lp_nocycle.proofs.Runs.{IsRun, AreBlands, proper_at, none_due_at, leaving_at, in_at, out_at}
+use Rattle.lp_nocycle.proofs.Runs.{IsRun, AreBlands, proper_at, none_required_at, leaving_at, in_at, out_at}
 use Rattle.lp_nocycle.proofs.Level.{Returns, touched_before}
 use Rattle.lp_nocycle.proofs.Fickle.{returns, no_return}
 use Rattle.lp_nocycle.proofs.Pigeons.{SamePhase, at_most, code, code_within, first_or_second, phases_same, same_code}
@@ -199,7 +199,7 @@ module _ (m w : ℕ) (at : ℕ → Dictionary) (pivot : ℕ → Pivot) (row : �
     longer j c n less none is s =
         let size = length-append s.streak (pivot j ∷ []) in
         let long = s.long in
-        let stands : IsDegeneratePivot s.phase (at j) (pivot j) = (s.now, ap (constant_at (at j)) (leaving_is j less) ∙ none.1) in
+        let occurs : IsDegeneratePivot s.phase (at j) (pivot j) = (s.now, ap (constant_at (at j)) (leaving_is j less) ∙ none.1) in
         record {
           phase = s.phase;
           before = s.before;
@@ -208,7 +208,7 @@ module _ (m w : ℕ) (at : ℕ → Dictionary) (pivot : ℕ → Pivot) (row : �
           long = omega arith;
           gains_nothing =
               along_more (IsDegeneratePivot s.phase) (reached first s.before) s.streak (pivot j) s.gains_nothing
-              (subst (λ d. IsDegeneratePivot s.phase d (pivot j)) (sym (reached_by j s.before s.streak (omega arith) s.split)) stands);
+              (subst (λ d. IsDegeneratePivot s.phase d (pivot j)) (sym (reached_by j s.before s.streak (omega arith) s.split)) occurs);
           now = next_phase j s.phase none.0 s.now;
         }
 
@@ -283,14 +283,14 @@ module _ (n : ℕ) (at : ℕ → Dictionary) (pivot : ℕ → Pivot) (row : ℕ 
   phase_on : (j : ℕ) → j < n → SamePhase (at j) (at (suc j))
   phase_on j less =
       let none = (back.step j less).not_required in
-      let none_after = none_due_at n at pivot row back.runs j less in
+      let none_after = none_required_at n at pivot row back.runs j less in
       elim (found_or_not (at j).basic 0) [
         | inl found ↦ phases_same (at j) (at (suc j)) (inl (inr (contains_get (at j).basic found.0 0 found.1), inr (in_at n at pivot row back.runs 0 j less (back.zero_stays j less) (contains_get (at j).basic found.0 0 found.1))))
         | inr out ↦ phases_same (at j) (at (suc j)) (inr ((none, out), (none_after, out_at n at pivot row back.runs 0 j less ((back.step j less).improves.other) out)))
       ]
 
-  pub stands_still : (j : ℕ) → j < n → SamePhase (at j) (at (suc j)) × (constant_at (at j) (row j) ≡ Zero)
-  stands_still j less = (phase_on j less, touched_before n at pivot row back j less)
+  pub occurs_still : (j : ℕ) → j < n → SamePhase (at j) (at (suc j)) × (constant_at (at j) (row j) ≡ Zero)
+  occurs_still j less = (phase_on j less, touched_before n at pivot row back j less)
 
 -- ---- how many pivots there are
 
@@ -346,7 +346,7 @@ module _ (m w : ℕ) (at : ℕ → Dictionary) (pivot : ℕ → Pivot) (row : �
 
     is_still : (x : ℕ) → x < suc n → IsStill m w at pivot row (i + x)
     is_still x less =
-        let h = stands_still (suc n) later later_pivot later_row comes_back x less in
+        let h = occurs_still (suc n) later later_pivot later_row comes_back x less in
         let e : at (i + suc x) ≡ at (suc (i + x)) = ap at (omega arith) in
         (subst (SamePhase (at (i + x))) e h.0, h.1)
 

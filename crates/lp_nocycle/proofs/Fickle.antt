@@ -261,7 +261,7 @@ module _ (n : ℕ) (at : ℕ → Dictionary) (pivot : ℕ → Pivot) (row : ℕ 
       elim phase_first [
         | inl one ↦ elim phase_last [
           | inl here ↦ elim here.1 [
-            | inl required ↦ Runs.none_due_at (suc n) at pivot row runs n (omega arith) required
+            | inl required ↦ Runs.none_required_at (suc n) at pivot row runs n (omega arith) required
             | inr basic ↦ Runs.entering_at (suc n) at pivot row runs 0 (omega arith) (subst (λ v. Contains (at 0).basic v) (sym o.enters) ((same 0).1 basic))
           ]
           | inr two ↦ let a = one.0 in let b = two.0 in absurd (omega arith)
@@ -271,7 +271,7 @@ module _ (n : ℕ) (at : ℕ → Dictionary) (pivot : ℕ → Pivot) (row : ℕ 
 
   no_opening : (j : ℕ) → j < suc n → ¬ (IsOpening (at j) (pivot j) (row j))
   no_opening zero less o = no_opening_first o
-  no_opening (suc j) less o = Runs.none_due_at (suc n) at pivot row runs j (omega arith) o.required
+  no_opening (suc j) less o = Runs.none_required_at (suc n) at pivot row runs j (omega arith) o.required
 
   step : (j : ℕ) → j < suc n → IsStep (at j) (pivot j) (row j)
   step j less = elim (runs.legal j less) [ inl o ↦ absurd (no_opening j less o) | inr s ↦ s ]

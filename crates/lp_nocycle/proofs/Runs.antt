@@ -105,8 +105,8 @@ module _ (m : ℕ) (at : ℕ → Dictionary) (pivot : ℕ → Pivot) (row : ℕ 
   proper_at zero within = runs.proper
   proper_at (suc j) within = subst IsProper (sym (runs.next j (omega arith))) (Proper.proper_after (at j) (pivot j) (row j) (proper_at j (omega arith)) (runs.legal j (omega arith)))
 
-  pub none_due_at : (j : ℕ) → j < m → ¬ (OpeningIsRequired (at (suc j)))
-  none_due_at j less = subst (λ d. ¬ (OpeningIsRequired d)) (sym (runs.next j less)) (Proper.none_due (at j) (pivot j) (row j) (proper_at j (omega arith)) (runs.legal j less))
+  pub none_required_at : (j : ℕ) → j < m → ¬ (OpeningIsRequired (at (suc j)))
+  none_required_at j less = subst (λ d. ¬ (OpeningIsRequired d)) (sym (runs.next j less)) (Proper.none_required (at j) (pivot j) (row j) (proper_at j (omega arith)) (runs.legal j less))
 
   pub out_at : (v j : ℕ) → j < m → (pivot j).enter ≢ v → ¬ (Contains (at j).basic v) → ¬ (Contains (at (suc j)).basic v)
   out_at v j less other none = subst (λ d. ¬ (Contains d.basic v)) (sym (runs.next j less)) (stays_out (at j) (pivot j) (row j) (proper_at j (omega arith)) (runs.legal j less) v other none)

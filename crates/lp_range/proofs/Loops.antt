@@ -84,8 +84,8 @@ no_end value limit moves amount each zero o none is equal =
     )
 
 -- the loop begins with no ends
-pub walk_begins : {F : Type 0} (value : F → Number) (limit : ℕ) (x : Number) (moves : Interval F) (gains rest : List Gain) → moves.low ≡ None → moves.high ≡ None → rest ≡ gains → span limit x gains ≡ span_from limit x (bound_value value moves.low) (bound_value value moves.high) rest
-walk_begins value limit x moves gains rest low high same =
+pub traversal_begins : {F : Type 0} (value : F → Number) (limit : ℕ) (x : Number) (moves : Interval F) (gains rest : List Gain) → moves.low ≡ None → moves.high ≡ None → rest ≡ gains → span limit x gains ≡ span_from limit x (bound_value value moves.low) (bound_value value moves.high) rest
+traversal_begins value limit x moves gains rest low high same =
     sym (ap₂ (λ lo hi. span_from limit x (bound_value value lo) (bound_value value hi) rest) low high ∙ ap (λ gs. span limit x gs) same)
 
 -- ---- numbers in order
@@ -170,8 +170,8 @@ module _ {F : Type 0} (value : F → Number) (lp : Lp F) (formed : IsWellFormed 
   pub first_slack : (n m : ℕ) → n ≡ d.variables → m ≡ length d.basic → n - m + 1 ≡ form.variables_of value lp + 1
   first_slack n m variables rows = omega (arith, variables, rows, is.variables, is.sized, count_is value lp formed)
 
-  pub slack_room : form.variables_of value lp + 1 + count_of_rows lp.rows ≤ d.variables + 1
-  slack_room =
+  pub slack_bound : form.variables_of value lp + 1 + count_of_rows lp.rows ≤ d.variables + 1
+  slack_bound =
       let first = rows_over value (form.columns_of value lp) 0 lp.rows in
       let following = bounds_over value (form.columns_of value lp) 0 lp.columns in
       omega (arith, is.variables, count_is value lp formed, length-append first following, rows_over_counted value (form.columns_of value lp) 0 lp.rows)
@@ -212,8 +212,8 @@ module _ (limit n : ℕ) (d : Dictionary) (pivots : List Pivot) (i : ℕ) (p : P
   leads_here : LeadsWithin (ByRule Legal) limit n [] d (p ∷ drop (i + 1) pivots) last
   leads_here = subst (λ (ps : List Pivot). LeadsWithin (ByRule Legal) limit n [] d ps last) (drop_item pivots i p here is) leads
 
-  pub pivot_is_due : (upcoming : ℕ) → n ≡ upcoming → (k : ℕ) × IsLegal d p k × AllFit (exchange_steps limit upcoming d p.enter k)
-  pivot_is_due upcoming same = (leads_here.0.0, leads_here.0.1, subst (λ u. AllFit (exchange_steps limit u d p.enter leads_here.0.0)) same leads_here.1.1)
+  pub pivot_is_required : (upcoming : ℕ) → n ≡ upcoming → (k : ℕ) × IsLegal d p k × AllFit (exchange_steps limit upcoming d p.enter k)
+  pivot_is_required upcoming same = (leads_here.0.0, leads_here.0.1, subst (λ u. AllFit (exchange_steps limit u d p.enter leads_here.0.0)) same leads_here.1.1)
 
   pub leads_on : (after : Dictionary) → ((k : ℕ) → slice_get d.basic k ≡ Some p.leave → after ≡ exchanged d p.enter k) → LeadsWithin (ByRule Legal) limit (n + 1) [] after (drop (i + 1) pivots) last
   leads_on after is_exchanged =

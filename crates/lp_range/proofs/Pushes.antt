@@ -195,8 +195,8 @@ module _ (lp : Lp Number) (formed : IsWellFormed itself lp) (i : ℕ) (row : Row
       moved_append push v first following (rows_over itself columns 0 (rows_with_right i right lp.rows)) following (rows_moved columns right v i 0 lp.rows row at)
       (unmoved push (v + length first) following (λ w low less. push_past row.sense slack (right -ℚ row.right) w (omega (arith, high, count, low))))
 
-  pub rows_room : count_of_rows lp.rows ≤ length (form.rows_of itself lp)
-  rows_room =
+  pub rows_bound : count_of_rows lp.rows ≤ length (form.rows_of itself lp)
+  rows_bound =
       let first = rows_over itself (form.columns_of itself lp) 0 lp.rows in
       let following = bounds_over itself (form.columns_of itself lp) 0 lp.columns in
       omega (arith, length-append first following, rows_over_counted itself (form.columns_of itself lp) 0 lp.rows)

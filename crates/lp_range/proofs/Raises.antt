@@ -191,8 +191,8 @@ module _ (d : Dictionary) where
         (sum_by_same (λ w. entry_at raised k w *ℚ value_of_column x w) (λ w. entry_at d k w *ℚ value_of_column x w) (range_with_len 0 (d.variables + 1)) (λ w. ap (λ u. u *ℚ value_of_column x w) (raised_row k (w + 1) less)))
         (raised_row k 0 less)
 
-    pub raised_not_due : ¬ (OpeningIsRequired d) → ¬ (OpeningIsRequired raised)
-    raised_not_due not_required required = not_required (required.0, required.1, subst (λ u. u <ℚ whole (pos 0)) (raised_row required.0 0 required.1) required.2)
+    pub raised_not_required : ¬ (OpeningIsRequired d) → ¬ (OpeningIsRequired raised)
+    raised_not_required not_required required = not_required (required.0, required.1, subst (λ u. u <ℚ whole (pos 0)) (raised_row required.0 0 required.1) required.2)
 
     -- the values are the same
     value_same : (v : ℕ) (r : Option ℕ) → row_of_basic d v ≡ r → value_by_row raised r ≡ value_by_row d r
@@ -204,7 +204,7 @@ module _ (d : Dictionary) where
 
     pub nothing_raised : ¬ (InPhaseOne d) → ¬ (OpeningIsRequired d) → ((q : ℕ) → 1 ≤ q → q ≤ d.variables → row_of_basic d q ≡ None → entry_at d (length d.basic) q +ℚ t *ℚ column_entry c q ≤ℚ whole (pos 0)) → NothingImproves raised
     nothing_raised second not_required below = (
-      raised_not_due not_required,
+      raised_not_required not_required,
       λ v better.
           let other = better.other in
           let above = better.above (length d.basic) (inr (second, refl)) in
@@ -329,7 +329,7 @@ module _ (d : Dictionary) where
             }
 
       none_zero : ¬ (HasZero raised)
-      none_zero h = elim h [ inl phase ↦ second phase | inr required ↦ raised_not_due not_required required ]
+      none_zero h = elim h [ inl phase ↦ second phase | inr required ↦ raised_not_required not_required required ]
 
       pub raised_of_form : IsDictionaryOf raised_form raised
       raised_of_form =

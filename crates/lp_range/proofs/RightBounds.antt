@@ -33,7 +33,7 @@ use Rattle.lp_range.specs.Ranges.{interval_value, span_value, right_gain, right_
 use Rattle.lp_range.specs.Moved.{itself, rows_with_right, with_right, MeetsBoundWithRight}
 use Rattle.lp_range.proofs.Spans.{AreAbove, within_stays}
 use Rattle.lp_range.proofs.Moves.{moved, moved_of_form, nothing_moved, costs_same}
-use Rattle.lp_range.proofs.Pushes.{slack_at, slack_high, push, rows_room, form_is_moved, gained_is}
+use Rattle.lp_range.proofs.Pushes.{slack_at, slack_high, push, rows_bound, form_is_moved, gained_is}
 use Rattle.lp_range.proofs.Numbers.{with_right_formed, numbers_formed, none_cross}
 
 -- ---- the gains of constants
@@ -84,7 +84,7 @@ module _ (limit : ℕ) (lp : Lp Number) (formed : IsWellFormed itself lp) (order
   within_bound : v + rows_of_sense row.sense ≤ d.variables + 1
   within_bound =
       let high = slack_high (variables_of itself lp + 1) i lp.rows row at in
-      omega (arith, high, is.variables, count_is itself lp formed, rows_room lp formed i row at right)
+      omega (arith, high, is.variables, count_is itself lp formed, rows_bound lp formed i row at right)
 
   stays : (k : ℕ) → k < length d.basic → whole (pos 0) ≤ℚ constant_at (moved pushed d) k
   stays k less =

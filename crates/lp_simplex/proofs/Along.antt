@@ -8,9 +8,9 @@ pub along_more : (At : Dictionary → Pivot → Type 0) (d : Dictionary) (ps : L
 along_more At d [] p all here = (here, tt)
 along_more At d (q ∷ ps) p all here = (all.0, along_more At (after_pivot d q) ps p all.1 here)
 
-pub along_front : (At : Dictionary → Pivot → Type 0) (d : Dictionary) (ps : List Pivot) (p : Pivot) → AllAlong At d (ps ++ p ∷ []) → AllAlong At d ps
-along_front At d [] p all = tt
-along_front At d (q ∷ ps) p all = (all.0, along_front At (after_pivot d q) ps p all.1)
+pub along_prefix : (At : Dictionary → Pivot → Type 0) (d : Dictionary) (ps : List Pivot) (p : Pivot) → AllAlong At d (ps ++ p ∷ []) → AllAlong At d ps
+along_prefix At d [] p all = tt
+along_prefix At d (q ∷ ps) p all = (all.0, along_prefix At (after_pivot d q) ps p all.1)
 
 pub along_last : (At : Dictionary → Pivot → Type 0) (d : Dictionary) (ps : List Pivot) (p : Pivot) → AllAlong At d (ps ++ p ∷ []) → At (reached d ps) p
 along_last At d [] p all = all.0

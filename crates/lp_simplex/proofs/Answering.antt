@@ -30,7 +30,7 @@ use Rattle.lp_simplex.specs.InnerEnds.{IsLedBack, IsBrokenOff, EndsHalted}
 use Rattle.lp_fraction_dict.specs.Pivots.{IsProper}
 use Rattle.lp_simplex.proofs.Ending.{halted_so}
 use Rattle.lp_core.proofs.Rules.{legal_answer}
-use Rattle.lp_simplex.proofs.ProgramDictionaries.{first_stands}
+use Rattle.lp_simplex.proofs.ProgramDictionaries.{first_occurs}
 
 -- ---- the recovery
 
@@ -63,8 +63,8 @@ broken_off_two value limit lp d two (Err e) h = tt
 -- ---- the whole
 
 -- pivots by a choice from a dictionary to a last one, and an end there
-abbrev Walked : {F : Type 0} → (F → Number) → ℕ → Lp F → ℕ → (Dictionary → List Pivot → Dictionary → ℕ → Type 0) → Dictionary → List Pivot → Dictionary → End F → Type 0
-Walked value limit lp iterlim choice d p last end =
+abbrev Traversed : {F : Type 0} → (F → Number) → ℕ → Lp F → ℕ → (Dictionary → List Pivot → Dictionary → ℕ → Type 0) → Dictionary → List Pivot → Dictionary → End F → Type 0
+Traversed value limit lp iterlim choice d p last end =
     LeadsWithin (ByChoice choice d) limit 1 [] d p last × EndsSoBy value limit lp iterlim (ByChoice choice d p last) (choice d p last) (length p) last end
 
 pub answers_so : {F : Type 0} (value : F → Number) (limit : ℕ) (lp : Lp F) (iterlim : ℕ) (choice : Dictionary → List Pivot → Dictionary → ℕ → Type 0) (s : Standard) (first : Dictionary) (pivot_run : PivotRun F) (answer : Answer F) → ((start : Dictionary) (pivots : List Pivot) (d : Dictionary) (q : ℕ) → choice start pivots d q → Improves d q) → FirstCrossed value lp.columns None → AllFit (standard_steps value limit lp) → s ≡ standard_form value lp → first ≡ first_dictionary s → IsPivotRun limit value choice first iterlim pivot_run → answer.pivots ≡ pivot_run.pivots.items → EndsHalted value limit lp pivot_run.halt answer.end → IsAnswerByChoice value limit lp iterlim choice answer
@@ -73,15 +73,15 @@ answers_so value limit lp iterlim choice s first pivot_run answer improves none 
     let from : first ≡ start = begins ∙ ap first_dictionary form in
     let ended = halted_so value limit lp iterlim (choice first pivot_run.pivots.items is.last) (length pivot_run.pivots.items) is.last pivot_run.halt answer.end (improves first pivot_run.pivots.items is.last) is.halts ends in
     let few : length answer.pivots ≤ iterlim = subst (λ (p : List Pivot). length p ≤ iterlim) (sym pivots) is.few in
-    let begun : Walked value limit lp iterlim choice start pivot_run.pivots.items is.last answer.end =
-    subst (λ d. Walked value limit lp iterlim choice d pivot_run.pivots.items is.last answer.end) from (is.leads, ended) in
-    let run_of_pivots : Walked value limit lp iterlim choice start answer.pivots is.last answer.end =
-    subst (λ (p : List Pivot). Walked value limit lp iterlim choice start p is.last answer.end) (sym pivots) begun in
+    let begun : Traversed value limit lp iterlim choice start pivot_run.pivots.items is.last answer.end =
+    subst (λ d. Traversed value limit lp iterlim choice d pivot_run.pivots.items is.last answer.end) from (is.leads, ended) in
+    let run_of_pivots : Traversed value limit lp iterlim choice start answer.pivots is.last answer.end =
+    subst (λ (p : List Pivot). Traversed value limit lp iterlim choice start p is.last answer.end) (sym pivots) begun in
     search_ends none fit few is.last run_of_pivots.0 run_of_pivots.1
 
 pub first_is_proper : {F : Type 0} (value : F → Number) (lp : Lp F) (s : Standard) (first : Dictionary) → IsWellFormed value lp → s ≡ standard_form value lp → first ≡ first_dictionary s → IsProper first
 first_is_proper value lp s first formed form begins =
-    subst IsProper (sym (begins ∙ ap first_dictionary form)) (first_stands value lp formed).proper
+    subst IsProper (sym (begins ∙ ap first_dictionary form)) (first_occurs value lp formed).proper
 
 pub legal_if_ok : {F E : Type 0} (value : F → Number) (limit : ℕ) (lp : Lp F) (iterlim : ℕ) (choice : Dictionary → List Pivot → Dictionary → ℕ → Type 0) → ((start : Dictionary) (pivots : List Pivot) (d : Dictionary) (q : ℕ) → choice start pivots d q → Improves d q) → (r : Result (Answer F) E) → IfOk r (IsAnswerByChoice value limit lp iterlim choice) → IfOk r (IsAnswer value limit lp iterlim Legal)
 legal_if_ok value limit lp iterlim choice improves (Ok answer) h = legal_answer value limit lp iterlim choice answer improves h

@@ -16,15 +16,15 @@ use Rattle.lp_simplex.proofs.PivotSteps.{leaves_row, row_is_leaving, after_is, r
 use Rattle.lp_simplex.specs.declared.turning.Count.{Count}
 use Rattle.lp_simplex.specs.declared.turning.Count.TheVariants as counts
 use Rattle.lp_simplex.specs.InnerCounting.{EndsStill, IsCounting, Remembers, after}
-use Rattle.lp_simplex.proofs.Along.{along_more, along_front, along_last}
+use Rattle.lp_simplex.proofs.Along.{along_more, along_prefix, along_last}
 use Rattle.lp_simplex.proofs.Phases.{phase_of, same_phase, other_phase}
 
 abbrev Zero : Number
 Zero = whole (pos 0)
 
-nil_behind : (l : List Pivot) → l ++ [] ≡ l
-nil_behind [] = refl
-nil_behind (x ∷ l) = ap (λ m. x ∷ m) (nil_behind l)
+nil_after : (l : List Pivot) → l ++ [] ≡ l
+nil_after [] = refl
+nil_after (x ∷ l) = ap (λ m. x ∷ m) (nil_after l)
 
 -- ---- before any pivot
 
@@ -42,7 +42,7 @@ begins d =
       here = refl;
       few = omega arith;
       is_count = inl refl;
-      at_most = λ still ends. let none = ap length (nothing_in ends.before still [] (ends.split ∙ sym (nil_behind (ends.before ++ still)))) in omega arith;
+      at_most = λ still ends. let none = ap length (nothing_in ends.before still [] (ends.split ∙ sym (nil_after (ends.before ++ still)))) in omega arith;
       not_turned = none_still d;
     }
 
@@ -81,7 +81,7 @@ module _ (first : Dictionary) (pivots : List Pivot) (d : Dictionary) (p : Pivot)
         phase = phase;
         prefix = prefix;
         is = is;
-        ends = record { phase = phase; before = before; split = split; gains_nothing = along_front (IsDegeneratePivot phase) (reached first before) prefix p all; now = last.0 };
+        ends = record { phase = phase; before = before; split = split; gains_nothing = along_prefix (IsDegeneratePivot phase) (reached first before) prefix p all; now = last.0 };
         gains_nothing = last;
         now = now;
       }
@@ -113,7 +113,7 @@ module _ (first : Dictionary) (pivots : List Pivot) (d : Dictionary) (p : Pivot)
           split = split;
           many = turned.many;
           gains_nothing = turned.gains_nothing;
-          same_phase = along_front (IsOfPhase turned.phase) start prefix p all;
+          same_phase = along_prefix (IsOfPhase turned.phase) start prefix p all;
           now = last;
         },
         (turned.phase, last, turned.now),
@@ -124,7 +124,7 @@ module _ (first : Dictionary) (pivots : List Pivot) (d : Dictionary) (p : Pivot)
 
   by_this : (turned : HasTurned first All Next) → turned.following ≡ [] → ByThis
   by_this turned none =
-      let split : All ≡ turned.before ++ turned.still = turned.split ∙ ap (λ l. turned.before ++ turned.still ++ l) none ∙ nil_behind (turned.before ++ turned.still) in
+      let split : All ≡ turned.before ++ turned.still = turned.split ∙ ap (λ l. turned.before ++ turned.still ++ l) none ∙ nil_after (turned.before ++ turned.still) in
       elim (split_more pivots turned.before turned.still p split) [
         | inl empty ↦ absurd (some_still turned.still d.variables empty turned.many)
         | inr found ↦ (turned.still, turned.many, ends_before turned.still found.0 turned.before turned.phase found.1 found.2 turned.gains_nothing turned.now)
@@ -204,7 +204,7 @@ module _ (first : Dictionary) (pivots : List Pivot) (d : Dictionary) (p : Pivot)
       no_pivots : EndsStill first pivots d []
       no_pivots =
           let phase = phase_of d p k proper legal in
-          record { phase = phase.0; before = pivots; split = sym (nil_behind pivots); gains_nothing = tt; now = phase.1 }
+          record { phase = phase.0; before = pivots; split = sym (nil_after pivots); gains_nothing = tt; now = phase.1 }
 
       -- the pivots at the end that gained nothing, and this one
       one_more : (still : List Pivot) × EndsStill first All Next still × (length still ≡ count + 1)
@@ -243,7 +243,7 @@ module _ (first : Dictionary) (pivots : List Pivot) (d : Dictionary) (p : Pivot)
             before = last.before;
             still = one_more.0;
             following = [];
-            split = last.split ∙ sym (nil_behind (last.before ++ one_more.0));
+            split = last.split ∙ sym (nil_after (last.before ++ one_more.0));
             many = omega arith;
             gains_nothing = last.gains_nothing;
             same_phase = tt;

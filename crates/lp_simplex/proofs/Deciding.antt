@@ -16,7 +16,7 @@ use Rattle.lp_std.proofs.Stops.{all_fit, stops_first}
 use Rattle.lp_fraction_dict.specs.Pivots.{IsProper, IsLeaving}
 use Rattle.lp_fraction_dict.proofs.Improving.{same_or_not, found_or_not, priced_there}
 use Rattle.lp_fraction_dict.proofs.Kept.{index_get, contains_get}
-use Rattle.lp_simplex.proofs.PivotSteps.{turn_of, opening_is_due, step_is_due}
+use Rattle.lp_simplex.proofs.PivotSteps.{turn_of, opening_is_required, step_is_required}
 
 -- ---- the least of the first n numbers of which something holds
 
@@ -155,8 +155,8 @@ module _ (d : Dictionary) (k : ℕ) (h : IsFirst (IsBelow d) (constant_at d) (ba
       let most = least.1 k h.below in
       h.first i least.0 (≤ℚ-<ℚ_trans (constant_at d i) (constant_at d k) (whole (pos 0)) most h.holds) most
 
-pub due_or_not : (d : Dictionary) → ((k : ℕ) × IsFirst (IsBelow d) (constant_at d) (basic_at d) (length d.basic) k) ⊎ ¬ (OpeningIsRequired d)
-due_or_not d =
+pub required_or_not : (d : Dictionary) → ((k : ℕ) × IsFirst (IsBelow d) (constant_at d) (basic_at d) (length d.basic) k) ⊎ ¬ (OpeningIsRequired d)
+required_or_not d =
     elim (first_below (IsBelow d) (λ i. below_or_not (constant_at d i)) (constant_at d) (basic_at d) (length d.basic)) [
       | inl found ↦ inl found
       | inr none ↦ inr (λ required. none required.0 required.1 required.2)
@@ -218,15 +218,15 @@ pub data Case (Chosen : ℕ → Type 0) (limit n : ℕ) (d : Dictionary) : Type 
   nothing_improves : NothingImproves d → Case Chosen limit n d
   none_limits : (q : ℕ) → ¬ (OpeningIsRequired d) → Chosen q → ((k : ℕ) → ¬ (Limits d q k)) → Case Chosen limit n d
   test_stops : (q : ℕ) → ¬ (OpeningIsRequired d) → Chosen q → (name : StepName) → FirstStop (ratio_steps limit n d q) name → Case Chosen limit n d
-  pivot_is_due : (p : Pivot) (k : ℕ) → IsAllowedBy Chosen d p k → TestFits limit n d p → Case Chosen limit n d
+  pivot_is_required : (p : Pivot) (k : ℕ) → IsAllowedBy Chosen d p k → TestFits limit n d p → Case Chosen limit n d
 
 module _ (Chosen : ℕ → Type 0) (limit n : ℕ) (d : Dictionary) (improves : (q : ℕ) → Chosen q → Improves d q) where
   with_leaving : (q : ℕ) → ¬ (OpeningIsRequired d) → Chosen q → AllFit (ratio_steps limit n d q) → Case Chosen limit n d
   with_leaving q none chosen fit =
       elim (first_below (IsAbove d q) (λ i. above_or_not (entry_at d i q)) (ratio_at d q) (basic_at d) (length d.basic)) [
         | inl found ↦
-            let required = step_is_due Chosen limit n d q (basic_at d found.0) none (improves q chosen) chosen (leaves_first d q found.0 found.1) fit in
-            pivot_is_due (turn_of q (basic_at d found.0)) required.0 required.1 required.2
+            let required = step_is_required Chosen limit n d q (basic_at d found.0) none (improves q chosen) chosen (leaves_first d q found.0 found.1) fit in
+            pivot_is_required (turn_of q (basic_at d found.0)) required.0 required.1 required.2
         | inr free ↦ none_limits q none chosen (λ k limits. free k limits.0 limits.1)
       ]
 
@@ -236,11 +236,11 @@ module _ (Chosen : ℕ → Type 0) (limit n : ℕ) (d : Dictionary) (improves : 
 
   pub case_at : ((q : ℕ) × Chosen q) ⊎ ((v : ℕ) → ¬ (Improves d v)) → Case Chosen limit n d
   case_at some =
-      elim (due_or_not d) [
+      elim (required_or_not d) [
         | inl found ↦
             let p : Pivot = turn_of 0 (basic_at d found.0) in
-            let required = opening_is_due Chosen limit n d p (found.0, opening_there d found.0 found.1) (opening_least d found.0 found.1) in
-            pivot_is_due p required.0 required.1 required.2
+            let required = opening_is_required Chosen limit n d p (found.0, opening_there d found.0 found.1) (opening_least d found.0 found.1) in
+            pivot_is_required p required.0 required.1 required.2
         | inr none ↦ elim some [
           | inl found ↦ with_entering found.0 none found.1 (first_stop (ratio_steps limit n d found.0)) refl
           | inr nothing_there ↦ nothing_improves (none, nothing_there)

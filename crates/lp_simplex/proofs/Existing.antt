@@ -31,10 +31,10 @@ use Rattle.lp_fraction_dict.specs.Pivots.{IsProper}
 use Rattle.lp_fraction_dict.proofs.Improving.{found_or_not}
 use Rattle.lp_fraction_dict.proofs.Kept.{contains_get}
 use Rattle.lp_fraction_dict.proofs.Proper.{proper_after}
-use Rattle.lp_simplex.proofs.ProgramDictionaries.{Stands, first_stands, stands_after}
+use Rattle.lp_simplex.proofs.ProgramDictionaries.{Occurs, first_occurs, occurs_after}
 use Rattle.lp_simplex.proofs.PivotSteps.{some_limits, limits_in_one, goes_on_by_pivot}
 use Rattle.lp_simplex.specs.Choices.{ChoosesImproving, AlwaysChooses}
-use Rattle.lp_simplex.proofs.Deciding.{Case, nothing_improves, none_limits, test_stops, pivot_is_due, due_or_not, least_or_none, case_at}
+use Rattle.lp_simplex.proofs.Deciding.{Case, nothing_improves, none_limits, test_stops, pivot_is_required, required_or_not, least_or_none, case_at}
 use Rattle.lp_simplex.proofs.Fitting.{Fitting, all_meant}
 use Rattle.lp_simplex.proofs.FittingForm.{HasFitting, form_within}
 use Rattle.lp_simplex.proofs.FittingTurn.{turn_within, values_within, costs_within, changes_within}
@@ -58,7 +58,7 @@ Fit step = step.1 ≡ true
 -- the phase of a dictionary
 phase_at : (d : Dictionary) → IsPhase d 1 ⊎ (IsPhase d 2 × ¬ (OpeningIsRequired d) × ¬ (InPhaseOne d))
 phase_at d =
-    elim (due_or_not d) [
+    elim (required_or_not d) [
       | inl found ↦ inl (inl (refl, inl (found.0, found.1.below, found.1.holds)))
       | inr none ↦ elim (found_or_not d.basic 0) [
         | inl found ↦ inl (inl (refl, inr (contains_get d.basic found.0 0 found.1)))
@@ -72,7 +72,7 @@ module _ {F : Type 0} (value : F → Number) (limit : ℕ) (some : 1 ≤ limit) 
 
   -- ---- the ends recovered from a final dictionary
 
-  module _ (d : Dictionary) (stands : Stands (standard_form value lp) d) (fitting : HasFitting limit d) where
+  module _ (d : Dictionary) (occurs : Occurs (standard_form value lp) d) (fitting : HasFitting limit d) where
     levels_meant : AllFit (levels_steps value limit lp (last_of d)) → (xs : List F) × (map value xs ≡ levels_back value lp (last_of d))
     levels_meant fit = meant (levels_back value lp (last_of d)) (levels_back_within value limit some small within lp (last_of d) (values_within limit some d fitting) fit)
 
@@ -95,7 +95,7 @@ module _ {F : Type 0} (value : F → Number) (limit : ℕ) (some : 1 ≤ limit) 
         let ys = meant (duals_back value lp (last_of d)) (duals_back_within value limit some small within lp (last_of d) costs (All-append_right Fit (first ++ second) third prefix)) in
         let rs = meant (reduced_back value lp (last_of d)) (reduced_back_within value limit some small within lp (last_of d) costs (All-append_right Fit (first ++ second ++ third) fourth fit)) in
         let told : LeadsTo value lp kind.Optimal (last_of d) (Optimal xs.0 sums.0 ys.0 rs.0) = (xs.1, sums.1, ys.1, rs.1) in
-        (Optimal xs.0 sums.0 ys.0 rs.0, inl (told, fit, proved_at value lp formed ordered d stands.of_form kind.Optimal (last_of d) (away, none, refl) (Optimal xs.0 sums.0 ys.0 rs.0) told))
+        (Optimal xs.0 sums.0 ys.0 rs.0, inl (told, fit, proved_at value lp formed ordered d occurs.of_form kind.Optimal (last_of d) (away, none, refl) (Optimal xs.0 sums.0 ys.0 rs.0) told))
 
     infeasible_end : InPhaseOne d → NothingImproves d → (o : Option StepName) → first_stop (infeasible_steps value limit lp (last_of d)) ≡ o → (end : End F) × EndsWith value limit lp kind.Infeasible (last_of d) end
     infeasible_end phase none (Some step) stops = (Refused step, inr (step, refl, stops_first (infeasible_steps value limit lp (last_of d)) step stops))
@@ -103,7 +103,7 @@ module _ {F : Type 0} (value : F → Number) (limit : ℕ) (some : 1 ≤ limit) 
         let fit : AllFit (infeasible_steps value limit lp (last_of d)) = all_fit (infeasible_steps value limit lp (last_of d)) fits in
         let ys = meant (farkas_back value lp (last_of d)) (farkas_back_within value limit some small within lp (last_of d) (costs_within limit some d fitting) fit) in
         let told : LeadsTo value lp kind.Infeasible (last_of d) (Infeasible ys.0 None) = (ys.1, refl) in
-        (Infeasible ys.0 None, inl (told, fit, proved_at value lp formed ordered d stands.of_form kind.Infeasible (last_of d) (phase, none, refl) (Infeasible ys.0 None) told))
+        (Infeasible ys.0 None, inl (told, fit, proved_at value lp formed ordered d occurs.of_form kind.Infeasible (last_of d) (phase, none, refl) (Infeasible ys.0 None) told))
 
     unbounded_end : (q : ℕ) → ¬ (InPhaseOne d) → IsUnlimitedBy (Improves d) d q → (o : Option StepName) → first_stop (unbounded_steps value limit lp (last_along d q)) ≡ o → (end : End F) × EndsWith value limit lp kind.Unbounded (last_along d q) end
     unbounded_end q away along (Some step) stops = (Refused step, inr (step, refl, stops_first (unbounded_steps value limit lp (last_along d q)) step stops))
@@ -117,7 +117,7 @@ module _ {F : Type 0} (value : F → Number) (limit : ℕ) (some : 1 ≤ limit) 
         let sums = sums_meant (All-append_right Fit first second point) in
         let rs = meant (ray_back value lp (last_along d q)) (ray_back_within value limit some small within lp (last_along d q) (changes_within limit some d fitting q along.1.there) (All-append_right Fit (first ++ second) third fit)) in
         let told : LeadsTo value lp kind.Unbounded (last_along d q) (Unbounded xs.0 sums.0 rs.0) = (xs.1, sums.1, rs.1) in
-        (Unbounded xs.0 sums.0 rs.0, inl (told, fit, proved_at value lp formed ordered d stands.of_form kind.Unbounded (last_along d q) (away, (q, along, refl)) (Unbounded xs.0 sums.0 rs.0) told))
+        (Unbounded xs.0 sums.0 rs.0, inl (told, fit, proved_at value lp formed ordered d occurs.of_form kind.Unbounded (last_along d q) (away, (q, along, refl)) (Unbounded xs.0 sums.0 rs.0) told))
 
     interrupted_end : ¬ (OpeningIsRequired d) → ¬ (InPhaseOne d) → ((q : ℕ) × Improves d q) → (o : Option StepName) → first_stop (interrupted_steps value limit lp (last_of d)) ≡ o → (end : End F) × EndsWith value limit lp kind.Interrupted (last_of d) end
     interrupted_end none away more (Some step) stops = (Refused step, inr (step, refl, stops_first (interrupted_steps value limit lp (last_of d)) step stops))
@@ -128,7 +128,7 @@ module _ {F : Type 0} (value : F → Number) (limit : ℕ) (some : 1 ≤ limit) 
         let xs = levels_meant (All-append_left Fit first second fit) in
         let sums = sums_meant (All-append_right Fit first second fit) in
         let told : LeadsTo value lp kind.Interrupted (last_of d) (Interrupted 2 xs.0 sums.0) = (refl, xs.1, sums.1) in
-        (Interrupted 2 xs.0 sums.0, inl (told, fit, proved_at value lp formed ordered d stands.of_form kind.Interrupted (last_of d) (away, none, more, refl) (Interrupted 2 xs.0 sums.0) told))
+        (Interrupted 2 xs.0 sums.0, inl (told, fit, proved_at value lp formed ordered d occurs.of_form kind.Interrupted (last_of d) (away, none, more, refl) (Interrupted 2 xs.0 sums.0) told))
 
     -- ---- the end of the search here
 
@@ -172,7 +172,7 @@ module _ {F : Type 0} (value : F → Number) (limit : ℕ) (some : 1 ≤ limit) 
       ends_at_limit most (test_stops q none chosen name stops) =
           let row = some_limits limit (pivots + 1) d q name stops in
           ends_broken most (inr (none, (q, row.0, chosen, row.1)))
-      ends_at_limit most (pivot_is_due p k allowed tested) = ends_broken most (goes_on_by_pivot Chosen d p k allowed)
+      ends_at_limit most (pivot_is_required p k allowed tested) = ends_broken most (goes_on_by_pivot Chosen d p k allowed)
 
   -- ---- the run of pivots
 
@@ -214,13 +214,13 @@ module _ {F : Type 0} (value : F → Number) (limit : ℕ) (some : 1 ≤ limit) 
     Next left count done d =
         (p : Pivot) (k : ℕ) → IsAllowedBy (Chosen done d) d p k → AllFit (exchange_steps limit (count + 1) d p.enter k) → Goes left (count + 1) (done ++ p ∷ []) (exchanged d p.enter k)
 
-    by_case : (left count : ℕ) (done : List Pivot) (d : Dictionary) → count < iterlim → Stands (standard_form value lp) d → HasFitting limit d → Next left count done d → Case (Chosen done d) limit (count + 1) d → Goes (suc left) count done d
-    by_case left count done d less stands fitting next (nothing_improves none) = ends_now (suc left) count done d (ends_nothing d stands fitting (Chosen done d) (improves First done d) count none)
-    by_case left count done d less stands fitting next (none_limits q none chosen free) = ends_now (suc left) count done d (ends_unlimited d stands fitting (Chosen done d) (improves First done d) count q none chosen free)
-    by_case left count done d less stands fitting next (test_stops q none chosen name stops) =
+    by_case : (left count : ℕ) (done : List Pivot) (d : Dictionary) → count < iterlim → Occurs (standard_form value lp) d → HasFitting limit d → Next left count done d → Case (Chosen done d) limit (count + 1) d → Goes (suc left) count done d
+    by_case left count done d less occurs fitting next (nothing_improves none) = ends_now (suc left) count done d (ends_nothing d occurs fitting (Chosen done d) (improves First done d) count none)
+    by_case left count done d less occurs fitting next (none_limits q none chosen free) = ends_now (suc left) count done d (ends_unlimited d occurs fitting (Chosen done d) (improves First done d) count q none chosen free)
+    by_case left count done d less occurs fitting next (test_stops q none chosen name stops) =
         let row = some_limits limit (count + 1) d q name stops in
         ends_now (suc left) count done d (Refused name, step_stops less name refl (inl (none, (q, row.0, chosen, row.1, stops))))
-    by_case left count done d less stands fitting next (pivot_is_due p k allowed tested) =
+    by_case left count done d less occurs fitting next (pivot_is_required p k allowed tested) =
         turns left count done d p k less allowed tested (λ fit. next p k allowed fit) (first_stop (exchange_steps limit (count + 1) d p.enter k)) refl
 
     case_here : (count : ℕ) (done : List Pivot) (d : Dictionary) → IsProper First → IsProper d → Leads (ByRule Legal) [] First done d → Case (Chosen done d) limit (count + 1) d
@@ -231,12 +231,12 @@ module _ {F : Type 0} (value : F → Number) (limit : ℕ) (some : 1 ≤ limit) 
           | inr none ↦ inr none
         ])
 
-    goes : (left count : ℕ) (done : List Pivot) (d : Dictionary) → count + left ≡ iterlim → IsProper First → Leads (ByRule Legal) [] First done d → Stands (standard_form value lp) d → HasFitting limit d → Goes left count done d
-    goes zero count done d all first led stands fitting =
-        ends_now zero count done d (ends_at_limit d stands fitting (Chosen done d) (improves First done d) count (omega arith) (case_here count done d first stands.proper led))
-    goes (suc left) count done d all first led stands fitting =
-        by_case left count done d (omega arith) stands fitting
-        (λ p k allowed fit. goes left (count + 1) (done ++ p ∷ []) (exchanged d p.enter k) (omega arith) first (leads_more (ByRule Legal) [] First done d p k led allowed.0) (stands_after (standard_form value lp) d p k stands allowed.0) (turn_within limit some small (count + 1) d p.enter k fitting fit)) (case_here count done d first stands.proper led)
+    goes : (left count : ℕ) (done : List Pivot) (d : Dictionary) → count + left ≡ iterlim → IsProper First → Leads (ByRule Legal) [] First done d → Occurs (standard_form value lp) d → HasFitting limit d → Goes left count done d
+    goes zero count done d all first led occurs fitting =
+        ends_now zero count done d (ends_at_limit d occurs fitting (Chosen done d) (improves First done d) count (omega arith) (case_here count done d first occurs.proper led))
+    goes (suc left) count done d all first led occurs fitting =
+        by_case left count done d (omega arith) occurs fitting
+        (λ p k allowed fit. goes left (count + 1) (done ++ p ∷ []) (exchanged d p.enter k) (omega arith) first (leads_more (ByRule Legal) [] First done d p k led allowed.0) (occurs_after (standard_form value lp) d p k occurs allowed.0) (turn_within limit some small (count + 1) d p.enter k fitting fit)) (case_here count done d first occurs.proper led)
 
     made_answer : AllFit (standard_steps value limit lp) → Goes iterlim 0 [] First → (answer : Answer F) × IsAnswerByChoice value limit lp iterlim choice answer
     made_answer fit (pivots, few, (last, way, (end, ends))) =
@@ -246,7 +246,7 @@ module _ {F : Type 0} (value : F → Number) (limit : ℕ) (some : 1 ≤ limit) 
     -- the answer where the steps of the standard form fit
     pub run_of_pivots : AllFit (standard_steps value limit lp) → (answer : Answer F) × IsAnswerByChoice value limit lp iterlim choice answer
     run_of_pivots fit =
-        let begun = first_stands value lp formed in
+        let begun = first_occurs value lp formed in
         made_answer fit (goes iterlim 0 [] First (omega arith) begun.proper refl begun (form_within value limit some small within lp formed fit))
 
 -- ---- columns whose bounds cross

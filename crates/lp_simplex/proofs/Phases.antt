@@ -9,7 +9,7 @@ use Rattle.lp_core.specs.Ends.{IsPhase}
 use Rattle.lp_fraction_dict.specs.Pivots.{IsProper}
 use Rattle.lp_fraction_dict.proofs.Kept.{contains_get, index_get}
 use Rattle.lp_fraction_dict.proofs.Improving.{found_or_not}
-use Rattle.lp_fraction_dict.proofs.Proper.{set_same, set_other, place_within, basic_after, none_due}
+use Rattle.lp_fraction_dict.proofs.Proper.{set_same, set_other, place_within, basic_after, none_required}
 use Rattle.lp_simplex.proofs.PivotSteps.{leaves_row}
 
 phase_of_pivot : (d : Dictionary) (p : Pivot) (k : ℕ) → IsLegal d p k → (n : ℕ) × IsPhase d n
@@ -56,7 +56,7 @@ module _ (d : Dictionary) (p : Pivot) (k : ℕ) (proper : IsProper d) (legal : I
 
   pub same_phase : p.leave ≢ 0 → (n : ℕ) → IsPhase d n → IsPhase (exchanged d p.enter k) n
   same_phase other n (inl one) = inl (one.0, inr (stays_one other one.1))
-  same_phase other n (inr two) = inr (two.0, none_due d p k proper legal, stays_two two.1 two.2)
+  same_phase other n (inr two) = inr (two.0, none_required d p k proper legal, stays_two two.1 two.2)
 
   -- where variable 0 leaves
   no_opening : p.leave ≡ 0 → IsOpening d p k → ⊥
@@ -78,5 +78,5 @@ module _ (d : Dictionary) (p : Pivot) (k : ℕ) (proper : IsProper d) (legal : I
 
   pub other_phase : p.leave ≡ 0 → (n : ℕ) → IsPhase d n → IsPhase (exchanged d p.enter k) n → ⊥
   other_phase zero n (inr two) after = two.2 (contains_get d.basic k 0 (leaves ∙ ap Some zero))
-  other_phase zero n (inl one) (inl again) = elim again.1 [ inl required ↦ none_due d p k proper legal required | inr phase ↦ zero_is_gone zero phase ]
+  other_phase zero n (inl one) (inl again) = elim again.1 [ inl required ↦ none_required d p k proper legal required | inr phase ↦ zero_is_gone zero phase ]
   other_phase zero n (inl one) (inr two) = one_or_two n one.0 two.0

@@ -28,8 +28,8 @@ leaves_row d p k legal = elim legal [ inl opening ↦ opening.leaves | inr step 
 
 -- ---- what is required
 
-pub opening_is_due : (Chosen : ℕ → Type 0) (limit n : ℕ) (d : Dictionary) (p : Pivot) → ((k : ℕ) × IsOpening d p k) → ((i : ℕ) → IsLeast d i → p.leave ≤ basic_at d i) → (k : ℕ) × IsAllowedBy Chosen d p k × TestFits limit n d p
-opening_is_due Chosen limit n d p opening fewest =
+pub opening_is_required : (Chosen : ℕ → Type 0) (limit n : ℕ) (d : Dictionary) (p : Pivot) → ((k : ℕ) × IsOpening d p k) → ((i : ℕ) → IsLeast d i → p.leave ≤ basic_at d i) → (k : ℕ) × IsAllowedBy Chosen d p k × TestFits limit n d p
+opening_is_required Chosen limit n d p opening fewest =
     let taken : IsTaken Chosen d p = record { enters = λ none. absurd (none opening.1.required); leaves = λ i none ties. absurd (none opening.1.required); opens = λ i required least. fewest i least } in
     (opening.0, (inl opening.1, taken), λ none. absurd (none opening.1.required))
 
@@ -50,8 +50,8 @@ step_is d q v leaving none improves =
 step_taken : (Chosen : ℕ → Type 0) (d : Dictionary) (q v : ℕ) → IsLeaving d q (Some v) → ¬ (OpeningIsRequired d) → Chosen q → IsTaken Chosen d (turn_of q v)
 step_taken Chosen d q v leaving none chosen = record { enters = λ no. chosen; leaves = λ i no ties. leaving.1 i ties; opens = λ i required least. absurd (none required) }
 
-pub step_is_due : (Chosen : ℕ → Type 0) (limit n : ℕ) (d : Dictionary) (q v : ℕ) → ¬ (OpeningIsRequired d) → Improves d q → Chosen q → IsLeaving d q (Some v) → AllFit (ratio_steps limit n d q) → (k : ℕ) × IsAllowedBy Chosen d (turn_of q v) k × TestFits limit n d (turn_of q v)
-step_is_due Chosen limit n d q v none improves chosen leaving fit =
+pub step_is_required : (Chosen : ℕ → Type 0) (limit n : ℕ) (d : Dictionary) (q v : ℕ) → ¬ (OpeningIsRequired d) → Improves d q → Chosen q → IsLeaving d q (Some v) → AllFit (ratio_steps limit n d q) → (k : ℕ) × IsAllowedBy Chosen d (turn_of q v) k × TestFits limit n d (turn_of q v)
+step_is_required Chosen limit n d q v none improves chosen leaving fit =
     (leaving.0.0, (inr (step_is d q v leaving none improves), step_taken Chosen d q v leaving none chosen), λ no. fit)
 
 -- in phase 1 the row of variable 0 limits whatever improves
@@ -62,8 +62,8 @@ limits_in_one d q improves none phase =
       | inr free ↦ free phase
     ]
 
-pub none_is_due : (Chosen : ℕ → Type 0) (d : Dictionary) (q : ℕ) → ¬ (OpeningIsRequired d) → Improves d q → Chosen q → IsLeaving d q None → NothingIsNext Chosen d (Some q)
-none_is_due Chosen d q none improves chosen leaving = (limits_in_one d q improves leaving, (none, chosen, leaving))
+pub none_is_required : (Chosen : ℕ → Type 0) (d : Dictionary) (q : ℕ) → ¬ (OpeningIsRequired d) → Improves d q → Chosen q → IsLeaving d q None → NothingIsNext Chosen d (Some q)
+none_is_required Chosen d q none improves chosen leaving = (limits_in_one d q improves leaving, (none, chosen, leaving))
 
 -- ---- a step of the ratio test that does not fit is that of a row which limits
 

@@ -18,12 +18,12 @@ use Rattle.lp_fraction_dict.proofs.InForm.{form_in_order}
 use Rattle.lp_fraction_dict.proofs.Begins.{first_proper, first_of_form}
 
 -- A dictionary of a standard form in which each basic variable occurs in its own row alone.
-pub record Stands (s : Standard) (d : Dictionary) : Type 0 where
+pub record Occurs (s : Standard) (d : Dictionary) : Type 0 where
   pub proper : IsProper d
   pub of_form : IsDictionaryOf s d
 
-pub first_stands : {F : Type 0} (value : F → Number) (lp : Lp F) → IsWellFormed value lp → Stands (standard_form value lp) (first_dictionary (standard_form value lp))
-first_stands value lp formed =
+pub first_occurs : {F : Type 0} (value : F → Number) (lp : Lp F) → IsWellFormed value lp → Occurs (standard_form value lp) (first_dictionary (standard_form value lp))
+first_occurs value lp formed =
     let h = form_in_order value lp formed in
     record { proper = first_proper (standard_form value lp) h; of_form = first_of_form (standard_form value lp) h }
 
@@ -35,14 +35,14 @@ same_points d p k proper legal x objective gone =
     let at_zero : basic_at d k ≡ 0 → value_of_column x 0 ≡ whole (pos 0) = λ is. gone (sym (leaves_is d p k proper legal) ∙ is) in
     (λ m. meets_after d p.enter k x objective within some at_zero m, λ m. meets_before d p.enter k x objective within some at_zero m)
 
-pub stands_after : (s : Standard) (d : Dictionary) (p : Pivot) (k : ℕ) → Stands s d → IsLegal d p k → Stands s (exchanged d p.enter k)
-stands_after s d p k h legal =
+pub occurs_after : (s : Standard) (d : Dictionary) (p : Pivot) (k : ℕ) → Occurs s d → IsLegal d p k → Occurs s (exchanged d p.enter k)
+occurs_after s d p k h legal =
     record {
       proper = proper_after d p k h.proper legal;
       of_form = of_form_after s d p k h.proper legal (same_points d p k h.proper legal) h.of_form;
     }
 
-pub stands_last : (s : Standard) (Allowed : List Pivot → Dictionary → Pivot → ℕ → Type 0) → ((done : List Pivot) (d : Dictionary) (p : Pivot) (k : ℕ) → Allowed done d p k → IsLegal d p k) → (done : List Pivot) (d : Dictionary) (pivots : List Pivot) (last : Dictionary) → Stands s d → Leads Allowed done d pivots last → Stands s last
-stands_last s Allowed legal done d [] last h way = subst (Stands s) (sym way) h
-stands_last s Allowed legal done d (p ∷ pivots) last h way =
-    stands_last s Allowed legal (done ++ p ∷ []) (exchanged d p.enter way.0) pivots last (stands_after s d p way.0 h (legal done d p way.0 way.1)) way.2
+pub occurs_last : (s : Standard) (Allowed : List Pivot → Dictionary → Pivot → ℕ → Type 0) → ((done : List Pivot) (d : Dictionary) (p : Pivot) (k : ℕ) → Allowed done d p k → IsLegal d p k) → (done : List Pivot) (d : Dictionary) (pivots : List Pivot) (last : Dictionary) → Occurs s d → Leads Allowed done d pivots last → Occurs s last
+occurs_last s Allowed legal done d [] last h way = subst (Occurs s) (sym way) h
+occurs_last s Allowed legal done d (p ∷ pivots) last h way =
+    occurs_last s Allowed legal (done ++ p ∷ []) (exchanged d p.enter way.0) pivots last (occurs_after s d p way.0 h (legal done d p way.0 way.1)) way.2

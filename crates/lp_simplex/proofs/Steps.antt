@@ -19,12 +19,12 @@ use Rattle.lp_simplex.specs.declared.pivoting.Halt.TheVariants as halt
 use Rattle.lp_simplex.specs.declared.pivoting.Step.TheVariants as step
 use Rattle.lp_simplex.specs.declared.pivoting.PivotRun.{PivotRun}
 use Rattle.lp_simplex.specs.InnerStates.{next_with, IsNextStep, IsAfter, IsSoFar, StopsBy, StepsTo, HaltsAtLimit, HaltsAt, IsPivotRun}
-use Rattle.lp_simplex.proofs.PivotSteps.{step_is_due, none_is_due, leaves_row, way_more}
+use Rattle.lp_simplex.proofs.PivotSteps.{step_is_required, none_is_required, leaves_row, way_more}
 
 -- what is required if this variable leaves, or if none does
-pub due_by : (limit : ℕ) (Chosen : ℕ → Type 0) (n : ℕ) (d : Dictionary) (q : ℕ) (leave : Option ℕ) (r : NextStep) → ¬ (OpeningIsRequired d) → Improves d q → Chosen q → IsLeaving d q leave → AllFit (ratio_steps limit n d q) → r ≡ next_with q leave → IsNextStep limit Chosen n d r
-due_by limit Chosen n d q None r none improves chosen leaving fit is = subst (IsNextStep limit Chosen n d) (sym is) (none_is_due Chosen d q none improves chosen leaving)
-due_by limit Chosen n d q (Some v) r none improves chosen leaving fit is = subst (IsNextStep limit Chosen n d) (sym is) (step_is_due Chosen limit n d q v none improves chosen leaving fit)
+pub required_by : (limit : ℕ) (Chosen : ℕ → Type 0) (n : ℕ) (d : Dictionary) (q : ℕ) (leave : Option ℕ) (r : NextStep) → ¬ (OpeningIsRequired d) → Improves d q → Chosen q → IsLeaving d q leave → AllFit (ratio_steps limit n d q) → r ≡ next_with q leave → IsNextStep limit Chosen n d r
+required_by limit Chosen n d q None r none improves chosen leaving fit is = subst (IsNextStep limit Chosen n d) (sym is) (none_is_required Chosen d q none improves chosen leaving)
+required_by limit Chosen n d q (Some v) r none improves chosen leaving fit is = subst (IsNextStep limit Chosen n d) (sym is) (step_is_required Chosen limit n d q v none improves chosen leaving fit)
 
 module _ {F : Type 0} (value : F → Number) (limit : ℕ) (before : Tableau F) (p : Pivot) (legal : (k : ℕ) × IsLegal (dictionary value before) p k × TestFits limit before.upcoming (dictionary value before) p) where
   pub pivot_legal : (k : ℕ) × IsLegal (dictionary value before) p k
@@ -99,6 +99,6 @@ module _ {F : Type 0} (value : F → Number) (limit : ℕ) (Chosen : ℕ → Typ
   halts_at_limit (halt.Refused name) most h = absurd h
 
 -- a run that halted
-pub walk_is : {F : Type 0} (value : F → Number) (limit : ℕ) (choice : Dictionary → List Pivot → Dictionary → ℕ → Type 0) (Known : List Pivot → Dictionary → Type 0) (first : Dictionary) (iterlim : ℕ) (pivot_run : PivotRun F) (at : Tableau F) → length pivot_run.pivots.items ≤ iterlim → IsSoFar limit value choice Known first pivot_run.pivots.items at → HaltsAt limit value (choice first pivot_run.pivots.items (dictionary value at)) iterlim (length pivot_run.pivots.items) (dictionary value at) pivot_run.halt → IsPivotRun limit value choice first iterlim pivot_run
-walk_is value limit choice Known first iterlim pivot_run at few so_far halts =
+pub pivot_run_is : {F : Type 0} (value : F → Number) (limit : ℕ) (choice : Dictionary → List Pivot → Dictionary → ℕ → Type 0) (Known : List Pivot → Dictionary → Type 0) (first : Dictionary) (iterlim : ℕ) (pivot_run : PivotRun F) (at : Tableau F) → length pivot_run.pivots.items ≤ iterlim → IsSoFar limit value choice Known first pivot_run.pivots.items at → HaltsAt limit value (choice first pivot_run.pivots.items (dictionary value at)) iterlim (length pivot_run.pivots.items) (dictionary value at) pivot_run.halt → IsPivotRun limit value choice first iterlim pivot_run
+pivot_run_is value limit choice Known first iterlim pivot_run at few so_far halts =
     record { last = dictionary value at; few = few; leads = so_far.leads; of_form = so_far.of_form; halts = halts }

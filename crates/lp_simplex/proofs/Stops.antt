@@ -8,13 +8,13 @@ use Rattle.lp_std.specs.InnerSteps.{first_stop}
 abbrev Fit : ExpectedStep → Type 0
 Fit step = step.1 ≡ true
 
-first_behind : (before following : List ExpectedStep) (name : StepName) → AllFit before → first_stop (before ++ (name, false) ∷ following) ≡ Some name
-first_behind [] following name fit = refl
-first_behind ((m, true) ∷ before) following name fit = first_behind before following name (All-tail Fit (m, true) before fit)
-first_behind ((m, false) ∷ before) following name fit = absurd (let e = All-head Fit (m, false) before fit in cc)
+first_after : (before following : List ExpectedStep) (name : StepName) → AllFit before → first_stop (before ++ (name, false) ∷ following) ≡ Some name
+first_after [] following name fit = refl
+first_after ((m, true) ∷ before) following name fit = first_after before following name (All-tail Fit (m, true) before fit)
+first_after ((m, false) ∷ before) following name fit = absurd (let e = All-head Fit (m, false) before fit in cc)
 
 first_is : (steps : List ExpectedStep) (name : StepName) → FirstStop steps name → first_stop steps ≡ Some name
-first_is steps name stop = ap first_stop stop.split ∙ first_behind stop.before stop.following name stop.fit
+first_is steps name stop = ap first_stop stop.split ∙ first_after stop.before stop.following name stop.fit
 
 none_is : (steps : List ExpectedStep) → AllFit steps → first_stop steps ≡ None
 none_is [] fit = refl

@@ -27,7 +27,7 @@ use Rattle.lp_fraction_dict.proofs.Proper.{proper_after}
 use Rattle.lp_simplex.specs.InnerStates.{StopsBy}
 use Rattle.lp_simplex.proofs.Stops.{same_stop, fit_or_stop}
 use Rattle.lp_simplex.proofs.PivotSteps.{turn_of, leaves_row, goes_on_by_pivot, goes_on_by_stop}
-use Rattle.lp_simplex.proofs.ProgramDictionaries.{first_stands}
+use Rattle.lp_simplex.proofs.ProgramDictionaries.{first_occurs}
 
 -- ---- one pivot
 
@@ -258,18 +258,18 @@ module _ {F : Type 0} (value : F → Number) (inj : (x y : F) → value x ≡ va
 
   -- n is the number of the next pivot, the pivots `done` lead to d, and a and b count all pivots of
   -- the two runs
-  same_walk : (first : Dictionary) (done : List Pivot) (n m a b : ℕ) (d : Dictionary) (ps qs : List Pivot) (one two : Dictionary) (e f : End F) → IsProper d → n ≡ m + 1 → a ≡ m + length ps → b ≡ m + length qs → a ≤ iterlim → b ≤ iterlim
+  same_pivot_run : (first : Dictionary) (done : List Pivot) (n m a b : ℕ) (d : Dictionary) (ps qs : List Pivot) (one two : Dictionary) (e f : End F) → IsProper d → n ≡ m + 1 → a ≡ m + length ps → b ≡ m + length qs → a ≤ iterlim → b ≤ iterlim
       → LeadsWithin (ByChoice choice first) limit n done d ps one → LeadsWithin (ByChoice choice first) limit n done d qs two → EndsAfter first (done ++ ps) a one e → EndsAfter first (done ++ qs) b two f → (ps ≡ qs) × (e ≡ f)
-  same_walk first done n m a b d [] [] one two e f proper next a_is b_is few less way also ends ending =
+  same_pivot_run first done n m a b d [] [] one two e f proper next a_is b_is few less way also ends ending =
       let count : b ≡ a = omega arith in
       let here : EndsAfter first (done ++ []) a d e = subst (λ x. EndsAfter first (done ++ []) a x e) way.0 ends in
       let there : EndsAfter first (done ++ []) a d f = subst (λ x. EndsAfter first (done ++ []) a x f) also.0 (subst (λ c. EndsAfter first (done ++ []) c two f) count ending) in
       (refl, one_end value inj limit lp iterlim a d proper (choice first (done ++ []) d) (improves first (done ++ []) d) (once first (done ++ []) d) e f here there)
-  same_walk first done n m a b d [] (q ∷ qs) one two e f proper next a_is b_is few less way also ends ending =
+  same_pivot_run first done n m a b d [] (q ∷ qs) one two e f proper next a_is b_is few less way also ends ending =
       absurd (ends_or_goes first done n a d q also.0.0 one e proper (omega arith) (omega arith) way.0 also.0.1 also.1.0 also.1.1 ends)
-  same_walk first done n m a b d (p ∷ ps) [] one two e f proper next a_is b_is few less way also ends ending =
+  same_pivot_run first done n m a b d (p ∷ ps) [] one two e f proper next a_is b_is few less way also ends ending =
       absurd (ends_or_goes first done n b d p way.0.0 two f proper (omega arith) (omega arith) also.0 way.0.1 way.1.0 way.1.1 ending)
-  same_walk first done n m a b d (p ∷ ps) (q ∷ qs) one two e f proper next a_is b_is few less way also ends ending =
+  same_pivot_run first done n m a b d (p ∷ ps) (q ∷ qs) one two e f proper next a_is b_is few less way also ends ending =
       let pivot = same_pivot d (choice first done d) (improves first done d) (once first done d) q p also.0.0 way.0.0 also.0.1 way.0.1 in
       let row = same_row d (choice first done d) (improves first done d) (once first done d) q p also.0.0 way.0.0 proper also.0.1 way.0.1 in
       let on : LeadsWithin (ByChoice choice first) limit (n + 1) (done ++ p ∷ []) (exchanged d p.enter way.0.0) qs two =
@@ -277,7 +277,7 @@ module _ {F : Type 0} (value : F → Number) (inj : (x y : F) → value x ≡ va
       let mine : done ++ p ∷ ps ≡ (done ++ p ∷ []) ++ ps = sym (append_assoc done (p ∷ []) ps) in
       let other : done ++ q ∷ qs ≡ (done ++ p ∷ []) ++ qs = ap (λ r. done ++ r ∷ qs) pivot ∙ sym (append_assoc done (p ∷ []) qs) in
       let rest =
-      same_walk first (done ++ p ∷ []) (n + 1) (m + 1) a b (exchanged d p.enter way.0.0) ps qs one two e f (proper_after d p way.0.0 proper way.0.1.0) (omega arith) (omega arith) (omega arith) few less (way.0.2, way.1.2) on
+      same_pivot_run first (done ++ p ∷ []) (n + 1) (m + 1) a b (exchanged d p.enter way.0.0) ps qs one two e f (proper_after d p way.0.0 proper way.0.1.0) (omega arith) (omega arith) (omega arith) few less (way.0.2, way.1.2) on
       (subst (λ l. EndsAfter first l a one e) mine ends) (subst (λ l. EndsAfter first l b two f) other ending) in
       (ap₂ (λ r l. r ∷ l) (sym pivot) rest.0, rest.1)
 
@@ -321,6 +321,6 @@ module _ {F : Type 0} (value : F → Number) (inj : (x y : F) → value x ≡ va
   one_answer_by a b formed (search_ends ordered fit few last way ends) (form_stops nothing two) = absurd (fit_or_stop (standard_steps value limit lp) two.1.0 fit two.1.2)
   one_answer_by a b formed (search_ends ordered fit few last way ends) (search_ends also fits fewer there other finish) =
       let first = first_dictionary (standard_form value lp) in
-      let proper = (first_stands value lp formed).proper in
-      let same = same_walk first [] 1 0 (length a.pivots) (length b.pivots) first a.pivots b.pivots last there a.end b.end proper (omega arith) (omega arith) (omega arith) few fewer way other ends finish in
+      let proper = (first_occurs value lp formed).proper in
+      let same = same_pivot_run first [] 1 0 (length a.pivots) (length b.pivots) first a.pivots b.pivots last there a.end b.end proper (omega arith) (omega arith) (omega arith) few fewer way other ends finish in
       ap₂ answer_with same.0 same.1

@@ -14,9 +14,9 @@ use Rattle.lp_std.specs.declared.types.StdRow.{StdRow}
 use Rattle.lp_std.specs.declared.stop.Stop.{Stop}
 use Rattle.lp_std.specs.Meaning.{row_value}
 use Rattle.lp_std.specs.InnerSteps.{first_stop, StopsAt, placed_value, bounds_over}
-use Rattle.lp_std.proofs.Stops.{stop_behind}
+use Rattle.lp_std.proofs.Stops.{stop_after}
 use Rattle.lp_std.proofs.LoopSteps.{column_at-map}
-use Rattle.lp_std.proofs.RowSteps.{stops_in_front}
+use Rattle.lp_std.proofs.RowSteps.{stops_in_prefix}
 
 pub counted_by_bounds : {F : Type 0} (value : F → Number) (j v : ℕ) (lower upper : Option F) → length (form.bound_rows j v (bound_value value lower) (bound_value value upper)) ≡ form.rows_of_bounds lower upper
 counted_by_bounds value j v (Some l) (Some u) = refl
@@ -33,12 +33,12 @@ module _ {F : Type 0} (value : F → Number) (limit : ℕ) (columns : List (ℕ 
 
   pub bounds_stop : (r : ℕ) (s : Stop) → StopsAt (step r) s → StopsAt (bounds_steps value limit r j (drop j bounded)) s
   bounds_stop r s h =
-      subst (λ xs. StopsAt (bounds_steps value limit r j xs) s) (sym (drop_item bounded j column here is)) (stops_in_front (step r) (bounds_steps value limit (r + form.rows_of_bounds column.lower column.upper) (j + 1) (drop (j + 1) bounded)) s h)
+      subst (λ xs. StopsAt (bounds_steps value limit r j xs) s) (sym (drop_item bounded j column here is)) (stops_in_prefix (step r) (bounds_steps value limit (r + form.rows_of_bounds column.lower column.upper) (j + 1) (drop (j + 1) bounded)) s h)
 
   pub bounds_go : (r : ℕ) → first_stop (step r) ≡ None → first_stop (bounds_steps value limit r j (drop j bounded)) ≡ first_stop (bounds_steps value limit (r + form.rows_of_bounds column.lower column.upper) (j + 1) (drop (j + 1) bounded))
   bounds_go r h =
       ap (λ xs. first_stop (bounds_steps value limit r j xs)) (drop_item bounded j column here is)
-      ∙ stop_behind (step r) (bounds_steps value limit (r + form.rows_of_bounds column.lower column.upper) (j + 1) (drop (j + 1) bounded)) h
+      ∙ stop_after (step r) (bounds_steps value limit (r + form.rows_of_bounds column.lower column.upper) (j + 1) (drop (j + 1) bounded)) h
 
   pub bounds_count : sum_by (λ (c : Column F). form.rows_of_bounds c.lower c.upper) (drop j bounded) ≡ form.rows_of_bounds column.lower column.upper + sum_by (λ (c : Column F). form.rows_of_bounds c.lower c.upper) (drop (j + 1) bounded)
   bounds_count = ap (sum_by (λ (c : Column F). form.rows_of_bounds c.lower c.upper)) (drop_item bounded j column here is) ∙ sum_by-cons (λ (c : Column F). form.rows_of_bounds c.lower c.upper) column (drop (j + 1) bounded)

@@ -8,7 +8,7 @@ use Rattle.lp_core.specs.declared.answer.StepName.{StepName}
 use Rattle.lp_core.specs.Steps.{ExpectedStep}
 use Rattle.lp_form.proofs.LoopSteps.{drop_item}
 use Rattle.lp_std.specs.InnerSteps.{first_stop}
-use Rattle.lp_std.proofs.Stops.{stop_behind, stop_before}
+use Rattle.lp_std.proofs.Stops.{stop_after, stop_before}
 
 pub map-map : {X Y Z : Type 0} (f : Y → Z) (g : X → Y) (xs : List X) → map f (map g xs) ≡ map (λ x. f (g x)) xs
 map-map f g [] = refl
@@ -20,22 +20,22 @@ module _ {X Y : Type 0} (view : X → Y) (steps : ℕ × Y → List ExpectedStep
   traversal i = flat_map steps (enumerate_from i (map view (drop i xs)))
 
   module _ (i : ℕ) (x : X) (here : i < length xs) (is : x ≡ get_or xs i x) where
-    walk_here : traversal i ≡ steps (i, view x) ++ traversal (i + 1)
-    walk_here = ap (λ ys. flat_map steps (enumerate_from i (map view ys))) (drop_item xs i x here is)
+    traversal_here : traversal i ≡ steps (i, view x) ++ traversal (i + 1)
+    traversal_here = ap (λ ys. flat_map steps (enumerate_from i (map view ys))) (drop_item xs i x here is)
 
-    pub walk_goes : first_stop (steps (i, view x)) ≡ None → first_stop (traversal i) ≡ first_stop (traversal (i + 1))
-    walk_goes h = ap first_stop walk_here ∙ stop_behind (steps (i, view x)) (traversal (i + 1)) h
+    pub traversal_goes : first_stop (steps (i, view x)) ≡ None → first_stop (traversal i) ≡ first_stop (traversal (i + 1))
+    traversal_goes h = ap first_stop traversal_here ∙ stop_after (steps (i, view x)) (traversal (i + 1)) h
 
-    pub walk_stops : (step : StepName) → first_stop (steps (i, view x)) ≡ Some step → first_stop (traversal i) ≡ Some step
-    walk_stops step h = ap first_stop walk_here ∙ stop_before (steps (i, view x)) (traversal (i + 1)) step h
+    pub traversal_stops : (step : StepName) → first_stop (steps (i, view x)) ≡ Some step → first_stop (traversal i) ≡ Some step
+    traversal_stops step h = ap first_stop traversal_here ∙ stop_before (steps (i, view x)) (traversal (i + 1)) step h
 
-  pub walk_ends : (i : ℕ) → length xs ≤ i → first_stop (traversal i) ≡ None
-  walk_ends i end = ap (λ ys. first_stop (flat_map steps (enumerate_from i (map view ys)))) (drop_all i xs end)
+  pub traversal_ends : (i : ℕ) → length xs ≤ i → first_stop (traversal i) ≡ None
+  traversal_ends i end = ap (λ ys. first_stop (flat_map steps (enumerate_from i (map view ys)))) (drop_all i xs end)
 
 -- steps of one each
-pub walk_single : {Y : Type 0} (step : ℕ × Y → ExpectedStep) (ys : List (ℕ × Y)) → map step ys ≡ flat_map (λ p. step p ∷ []) ys
-walk_single step [] = refl
-walk_single step (y ∷ ys) = ap (λ zs. step y ∷ zs) (walk_single step ys)
+pub traversal_single : {Y : Type 0} (step : ℕ × Y → ExpectedStep) (ys : List (ℕ × Y)) → map step ys ≡ flat_map (λ p. step p ∷ []) ys
+traversal_single step [] = refl
+traversal_single step (y ∷ ys) = ap (λ zs. step y ∷ zs) (traversal_single step ys)
 
 module _ {X F : Type 0} (value : F → Number) (f : X → Number) (xs : List X) where
   pub made_more : (i : ℕ) (x : X) (made : List F) (y : F) → i < length xs → x ≡ get_or xs i x → map value made ≡ map f (take i xs) → value y ≡ f x → map value (made ++ y ∷ []) ≡ map f (take (i + 1) xs)

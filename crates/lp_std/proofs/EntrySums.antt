@@ -18,7 +18,7 @@ use Rattle.lp_form.proofs.LoopSteps.{drop_item}
 use Rattle.lp_std.specs.declared.types.Shift.{Shift}
 use Rattle.lp_std.specs.Meaning.{shift_value}
 use Rattle.lp_std.specs.InnerSteps.{first_stop, placed_value, dual_step, reduced_step}
-use Rattle.lp_std.proofs.Stops.{stop_behind, stop_before}
+use Rattle.lp_std.proofs.Stops.{stop_after, stop_before}
 
 -- ---- a row's sum
 
@@ -36,7 +36,7 @@ module _ {F : Type 0} (value : F → Number) (limit i : ℕ) (entries : List (�
 
   pub entry_goes : (s t : Number) → first_stop ((Recover 1 i k 0, product_fits limit (value e.1) (value level)) ∷ (Recover 1 i k 1, sum_fits limit s (value e.1 *ℚ value level)) ∷ []) ≡ None → t ≡ s +ℚ value e.1 *ℚ value level → first_stop (row_level_steps value limit i k s (drop k entries) (map value levels)) ≡ first_stop (row_level_steps value limit i (k + 1) t (drop (k + 1) entries) (map value levels))
   entry_goes s t fit is =
-      ap first_stop (entry_here s) ∙ stop_behind (two_steps s) (row_level_steps value limit i (k + 1) (s +ℚ value e.1 *ℚ value level) (drop (k + 1) entries) (map value levels)) fit
+      ap first_stop (entry_here s) ∙ stop_after (two_steps s) (row_level_steps value limit i (k + 1) (s +ℚ value e.1 *ℚ value level) (drop (k + 1) entries) (map value levels)) fit
       ∙ ap (λ n. first_stop (row_level_steps value limit i (k + 1) n (drop (k + 1) entries) (map value levels))) (sym is)
 
   pub entry_stops : (s : Number) (step : StepName) → first_stop ((Recover 1 i k 0, product_fits limit (value e.1) (value level)) ∷ (Recover 1 i k 1, sum_fits limit s (value e.1 *ℚ value level)) ∷ []) ≡ Some step → first_stop (row_level_steps value limit i k s (drop k entries) (map value levels)) ≡ Some step
@@ -53,7 +53,7 @@ module _ {F : Type 0} (value : F → Number) (limit : ℕ) (p : ℕ → Number) 
   pub dual_goes : (r : ℕ) → first_stop (dual_step limit p i r row.sense) ≡ None → first_stop (dual_steps limit p i r (drop i rows)) ≡ first_stop (dual_steps limit p (i + 1) (r + form.rows_of_sense row.sense) (drop (i + 1) rows))
   dual_goes r h =
       ap (λ xs. first_stop (dual_steps limit p i r xs)) (drop_item rows i row here is)
-      ∙ stop_behind (dual_step limit p i r row.sense) (dual_steps limit p (i + 1) (r + form.rows_of_sense row.sense) (drop (i + 1) rows)) h
+      ∙ stop_after (dual_step limit p i r row.sense) (dual_steps limit p (i + 1) (r + form.rows_of_sense row.sense) (drop (i + 1) rows)) h
 
   pub dual_stops : (r : ℕ) (step : StepName) → first_stop (dual_step limit p i r row.sense) ≡ Some step → first_stop (dual_steps limit p i r (drop i rows)) ≡ Some step
   dual_stops r step h =
@@ -84,7 +84,7 @@ module _ {F : Type 0} (value : F → Number) (limit : ℕ) (costs : List Number)
   pub reduced_goes : (r : ℕ) → first_stop (reduced_step limit costs p j place.0 r column.lower column.upper) ≡ None → first_stop (reduced_steps limit costs p j r (placed_value value (drop j columns)) (drop j bounded)) ≡ first_stop (reduced_steps limit costs p (j + 1) (r + form.rows_of_bounds column.lower column.upper) (placed_value value (drop (j + 1) columns)) (drop (j + 1) bounded))
   reduced_goes r h =
       ap₂ (λ cs xs. first_stop (reduced_steps limit costs p j r cs xs)) placed_drop (drop_item bounded j column here is)
-      ∙ stop_behind (reduced_step limit costs p j place.0 r column.lower column.upper) (reduced_steps limit costs p (j + 1) (r + form.rows_of_bounds column.lower column.upper) (placed_value value (drop (j + 1) columns)) (drop (j + 1) bounded)) h
+      ∙ stop_after (reduced_step limit costs p j place.0 r column.lower column.upper) (reduced_steps limit costs p (j + 1) (r + form.rows_of_bounds column.lower column.upper) (placed_value value (drop (j + 1) columns)) (drop (j + 1) bounded)) h
 
   pub reduced_stops : (r : ℕ) (step : StepName) → first_stop (reduced_step limit costs p j place.0 r column.lower column.upper) ≡ Some step → first_stop (reduced_steps limit costs p j r (placed_value value (drop j columns)) (drop j bounded)) ≡ Some step
   reduced_stops r step h =

@@ -16,15 +16,15 @@ use Rattle.lp_std.specs.declared.stop.Stop.{Stop}
 use Rattle.lp_std.specs.Meaning.{shift_value, row_value, standard_value, HasNoForm}
 use Rattle.lp_std.specs.InnerSteps.{first_stop, StopsAt, placed_value, rows_over, bounds_over}
 use Rattle.lp_std.specs.declared.stop.Stop.TheVariants as stop
-use Rattle.lp_std.proofs.Stops.{stop_behind, all_fit, stops_first}
-use Rattle.lp_std.proofs.RowSteps.{stops_on, stops_in_front}
+use Rattle.lp_std.proofs.Stops.{stop_after, all_fit, stops_first}
+use Rattle.lp_std.proofs.RowSteps.{stops_on, stops_in_prefix}
 use Rattle.lp_std.proofs.Shapes.{shift_for, rows_few}
 use Rattle.lp_std.proofs.LoopSteps.{column_at-map}
 
 module _ {F : Type 0} (value : F → Number) (limit : ℕ) (lp : Lp F) (columns : List (ℕ × Shift F)) (numbered : placed_value value columns ≡ form.columns_of value lp) (rows : List (Row F)) (rows_are : rows ≡ lp.rows) where
   pub rows_stopped : (s : Stop) → StopsAt (rows_steps value limit (placed_value value columns) 1 rows) s → StopsAt (standard_steps value limit lp) s
   rows_stopped s h =
-      stops_in_front (rows_steps value limit (form.columns_of value lp) 1 lp.rows) (bounds_steps value limit (1 + count_of_rows lp.rows) 0 lp.columns) s
+      stops_in_prefix (rows_steps value limit (form.columns_of value lp) 1 lp.rows) (bounds_steps value limit (1 + count_of_rows lp.rows) 0 lp.columns) s
       (subst (λ cs. StopsAt (rows_steps value limit cs 1 lp.rows) s) numbered (subst (λ rs. StopsAt (rows_steps value limit (placed_value value columns) 1 rs) s) rows_are h))
 
   module _ (made : List (StdRow F)) (fit : first_stop (rows_steps value limit (placed_value value columns) 1 rows) ≡ None) (are : map (row_value value) made ≡ rows_over value (placed_value value columns) 0 rows) (counted : length made ≡ count_of_rows rows) (bounded : List (Column F)) (bounded_are : bounded ≡ lp.columns) where
@@ -36,11 +36,11 @@ module _ {F : Type 0} (value : F → Number) (limit : ℕ) (lp : Lp F) (columns 
 
     same_stop : first_stop (standard_steps value limit lp) ≡ first_stop (bounds_steps value limit (length made + 1) 0 bounded)
     same_stop =
-        stop_behind (rows_steps value limit (form.columns_of value lp) 1 lp.rows) (bounds_steps value limit (1 + count_of_rows lp.rows) 0 lp.columns) rows_fit
+        stop_after (rows_steps value limit (form.columns_of value lp) 1 lp.rows) (bounds_steps value limit (1 + count_of_rows lp.rows) 0 lp.columns) rows_fit
         ∙ ap₂ (λ n cs. first_stop (bounds_steps value limit n 0 cs)) (sym same_count) (sym bounded_are)
 
-    pub room_left : IsWellFormed value lp → length made + sum_by (λ (column : Column F). form.rows_of_bounds column.lower column.upper) bounded ≤ 1500
-    room_left formed = omega (arith, counted, ap count_of_rows rows_are, ap (sum_by (λ (column : Column F). form.rows_of_bounds column.lower column.upper)) bounded_are, rows_few value lp formed)
+    pub bound_left : IsWellFormed value lp → length made + sum_by (λ (column : Column F). form.rows_of_bounds column.lower column.upper) bounded ≤ 1500
+    bound_left formed = omega (arith, counted, ap count_of_rows rows_are, ap (sum_by (λ (column : Column F). form.rows_of_bounds column.lower column.upper)) bounded_are, rows_few value lp formed)
 
     pub bounds_stopped : (s : Stop) → StopsAt (bounds_steps value limit (length made + 1) 0 bounded) s → StopsAt (standard_steps value limit lp) s
     bounds_stopped s h = stops_on (standard_steps value limit lp) (bounds_steps value limit (length made + 1) 0 bounded) s same_stop h

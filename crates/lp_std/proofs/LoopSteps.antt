@@ -13,7 +13,7 @@ use Rattle.lp_form.proofs.LoopSteps.{drop_item}
 use Rattle.lp_std.specs.declared.types.Shift.{Shift}
 use Rattle.lp_std.specs.Meaning.{shift_value}
 use Rattle.lp_std.specs.InnerSteps.{first_stop, placed_value, right_after, spread_entries}
-use Rattle.lp_std.proofs.Stops.{stop_behind, stop_before}
+use Rattle.lp_std.proofs.Stops.{stop_after, stop_before}
 
 -- ---- numbers of variables
 
@@ -46,7 +46,7 @@ module _ {F : Type 0} (value : F → Number) (limit : ℕ) (columns : List (ℕ 
     pub steps_go : (left next : F) → (first_stop (shifting limit row e.0 (shift_value value p.1) (value e.1) (value left)) ≡ None) × (value next ≡ value left -ℚ value e.1 *ℚ form.base (shift_value value p.1)) → first_stop (row_steps value limit (placed_value value columns) row (value left) (drop i entries)) ≡ first_stop (row_steps value limit (placed_value value columns) row (value next) (drop (i + 1) entries))
     steps_go left next h =
         ap first_stop (steps_here (value left))
-        ∙ stop_behind (shifting limit row e.0 (shift_value value p.1) (value e.1) (value left)) (row_steps value limit (placed_value value columns) row (value left -ℚ value e.1 *ℚ form.base (shift_value value p.1)) (drop (i + 1) entries)) h.0
+        ∙ stop_after (shifting limit row e.0 (shift_value value p.1) (value e.1) (value left)) (row_steps value limit (placed_value value columns) row (value left -ℚ value e.1 *ℚ form.base (shift_value value p.1)) (drop (i + 1) entries)) h.0
         ∙ ap (λ n. first_stop (row_steps value limit (placed_value value columns) row n (drop (i + 1) entries))) (sym h.1)
 
     pub steps_stop : (left : F) (step : StepName) → first_stop (shifting limit row e.0 (shift_value value p.1) (value e.1) (value left)) ≡ Some step → first_stop (row_steps value limit (placed_value value columns) row (value left) (drop i entries)) ≡ Some step

@@ -22,8 +22,8 @@ use Rattle.lp_std.specs.declared.stop.Stop.{Stop}
 use Rattle.lp_std.specs.Meaning.{shift_value}
 use Rattle.lp_std.specs.InnerSteps.{first_stop, StopsAt, placed_value, slack_multiplier, ComputesAll, IsSized}
 use Rattle.lp_std.specs.Last.{last_value}
-use Rattle.lp_std.proofs.Stops.{stop_behind}
-use Rattle.lp_std.proofs.RowSteps.{stops_on, stops_in_front}
+use Rattle.lp_std.proofs.Stops.{stop_after}
+use Rattle.lp_std.proofs.RowSteps.{stops_on, stops_in_prefix}
 use Rattle.lp_std.proofs.Shapes.{columns_few, placed_sized, placed_numbers}
 
 -- ---- sizes
@@ -69,7 +69,7 @@ module _ {F : Type 0} (value : F → Number) (limit : ℕ) (lp : Lp F) (columns 
 
   pub levels_stopped : (s : Stop) → StopsAt (map (λ (p : ℕ × (ℕ × form.Shift)). level_step limit p.0 p.1 (map value values)) (enumerate_from 0 (placed_value value columns))) s → StopsAt (levels_steps value limit lp (last_value value final) ++ row_levels_steps value limit lp (last_value value final)) s
   levels_stopped s h =
-      stops_in_front (levels_steps value limit lp (last_value value final)) (row_levels_steps value limit lp (last_value value final)) s (subst (λ steps. StopsAt steps s) level_dues_are h)
+      stops_in_prefix (levels_steps value limit lp (last_value value final)) (row_levels_steps value limit lp (last_value value final)) s (subst (λ steps. StopsAt steps s) level_dues_are h)
 
   module _ (levels : List F) (fit : first_stop (map (λ (p : ℕ × (ℕ × form.Shift)). level_step limit p.0 p.1 (map value values)) (enumerate_from 0 (placed_value value columns))) ≡ None) (are : map value levels ≡ map (λ (c : ℕ × form.Shift). form.shifted_back c (map value values)) (placed_value value columns)) where
     pub levels_are : map value levels ≡ form.levels_back value lp (last_value value final)
@@ -93,7 +93,7 @@ module _ {F : Type 0} (value : F → Number) (limit : ℕ) (lp : Lp F) (columns 
 
       whole_stop : first_stop (levels_steps value limit lp (last_value value final) ++ row_levels_steps value limit lp (last_value value final)) ≡ first_stop row_dues
       whole_stop =
-          stop_behind (levels_steps value limit lp (last_value value final)) (row_levels_steps value limit lp (last_value value final)) (ap first_stop (sym level_dues_are) ∙ fit) ∙ ap first_stop (sym row_dues_are)
+          stop_after (levels_steps value limit lp (last_value value final)) (row_levels_steps value limit lp (last_value value final)) (ap first_stop (sym level_dues_are) ∙ fit) ∙ ap first_stop (sym row_dues_are)
 
       pub rows_stopped : (s : Stop) → StopsAt (flat_map (λ (p : ℕ × Row F). row_level_steps value limit p.0 0 (whole (pos 0)) p.1.entries (map value given)) (enumerate_from 0 rows)) s → StopsAt (levels_steps value limit lp (last_value value final) ++ row_levels_steps value limit lp (last_value value final)) s
       rows_stopped s h = stops_on (levels_steps value limit lp (last_value value final) ++ row_levels_steps value limit lp (last_value value final)) row_dues s whole_stop h

@@ -19,7 +19,7 @@ use Rattle.lp_std.specs.declared.stop.Stop.{Stop}
 use Rattle.lp_std.specs.declared.stop.Stop.TheVariants as stop
 use Rattle.lp_std.specs.Meaning.{entries_value, row_value}
 use Rattle.lp_std.specs.InnerSteps.{first_stop, StopsAt, sense_steps, rows_over, right_after, spread_entries, shifted_over}
-use Rattle.lp_std.proofs.Stops.{stop_behind, stop_before}
+use Rattle.lp_std.proofs.Stops.{stop_after, stop_before}
 use Rattle.lp_std.proofs.LoopSteps.{right_sum}
 
 -- an element that is there, as the one that is read
@@ -47,10 +47,10 @@ stops_on all rest (stop.Limit step) e h = e ∙ h
 stops_on all rest (stop.Crossed j) e h = absurd h
 stops_on all rest stop.Memory e h = h
 
-pub stops_in_front : (a b : List ExpectedStep) (s : Stop) → StopsAt a s → StopsAt (a ++ b) s
-stops_in_front a b (stop.Limit step) h = stop_before a b step h
-stops_in_front a b (stop.Crossed j) h = absurd h
-stops_in_front a b stop.Memory h = h
+pub stops_in_prefix : (a b : List ExpectedStep) (s : Stop) → StopsAt a s → StopsAt (a ++ b) s
+stops_in_prefix a b (stop.Limit step) h = stop_before a b step h
+stops_in_prefix a b (stop.Crossed j) h = absurd h
+stops_in_prefix a b stop.Memory h = h
 
 pub counted_by_sense : (s : Sense) (i : ℕ) (r : form.StandardRow) → length (form.rows_by_sense s i r) ≡ form.rows_of_sense s
 counted_by_sense sense.E i r = refl
@@ -61,12 +61,12 @@ counted_by_sense sense.N i r = refl
 module _ {F : Type 0} (value : F → Number) (limit : ℕ) (columns : List (ℕ × form.Shift)) (rows : List (Row F)) (i : ℕ) (row : Row F) (here : i < length rows) (is : row ≡ get_or rows i row) where
   pub rows_stop : (r : ℕ) (s : Stop) → StopsAt (sense_steps value limit columns r row) s → StopsAt (rows_steps value limit columns r (drop i rows)) s
   rows_stop r s h =
-      subst (λ xs. StopsAt (rows_steps value limit columns r xs) s) (sym (drop_item rows i row here is)) (stops_in_front (sense_steps value limit columns r row) (rows_steps value limit columns (r + form.rows_of_sense row.sense) (drop (i + 1) rows)) s h)
+      subst (λ xs. StopsAt (rows_steps value limit columns r xs) s) (sym (drop_item rows i row here is)) (stops_in_prefix (sense_steps value limit columns r row) (rows_steps value limit columns (r + form.rows_of_sense row.sense) (drop (i + 1) rows)) s h)
 
   pub rows_go : (r : ℕ) → first_stop (sense_steps value limit columns r row) ≡ None → first_stop (rows_steps value limit columns r (drop i rows)) ≡ first_stop (rows_steps value limit columns (r + form.rows_of_sense row.sense) (drop (i + 1) rows))
   rows_go r h =
       ap (λ xs. first_stop (rows_steps value limit columns r xs)) (drop_item rows i row here is)
-      ∙ stop_behind (sense_steps value limit columns r row) (rows_steps value limit columns (r + form.rows_of_sense row.sense) (drop (i + 1) rows)) h
+      ∙ stop_after (sense_steps value limit columns r row) (rows_steps value limit columns (r + form.rows_of_sense row.sense) (drop (i + 1) rows)) h
 
   pub count_here : count_of_rows (drop i rows) ≡ form.rows_of_sense row.sense + count_of_rows (drop (i + 1) rows)
   count_here = ap count_of_rows (drop_item rows i row here is) ∙ sum_by-cons (λ (row : Row F). form.rows_of_sense row.sense) row (drop (i + 1) rows)

@@ -22,10 +22,10 @@ below_test b r x y b_is r_is =
 
 -- ---- lists of steps joined
 
-pub stop_behind : (a b : List ExpectedStep) → first_stop a ≡ None → first_stop (a ++ b) ≡ first_stop b
-stop_behind [] b e = refl
-stop_behind ((name, true) ∷ a) b e = stop_behind a b e
-stop_behind ((name, false) ∷ a) b e = absurd (cc)
+pub stop_after : (a b : List ExpectedStep) → first_stop a ≡ None → first_stop (a ++ b) ≡ first_stop b
+stop_after [] b e = refl
+stop_after ((name, true) ∷ a) b e = stop_after a b e
+stop_after ((name, false) ∷ a) b e = absurd (cc)
 
 pub stop_before : (a b : List ExpectedStep) (step : StepName) → first_stop a ≡ Some step → first_stop (a ++ b) ≡ Some step
 stop_before [] b step e = absurd (cc)

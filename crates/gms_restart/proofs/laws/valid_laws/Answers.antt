@@ -1,17 +1,17 @@
 use Rattle.std.proofs.Common.{length}
 use Rattle.gms_restart.specs.LastStates.{last_state}
 use Rattle.gms_restart.proofs.OwnLoaded.{has-its-labels}
-use Rattle.gms_restart.proofs.Runs.{kept-stand}
+use Rattle.gms_restart.proofs.Runs.{kept-occur}
 use Rattle.gms_restart.proofs.Continued.{later-saved, resumed-begins}
 use Rattle.gms_restart.proofs.LastSaves.{last-saved}
 use Rattle.gms_restart.proofs.Saved.{kept-saved, state-kept}
 use Rattle.gms_restart.proofs.laws.valid_laws.Goals as goal
 
-pub returns-clause-stand : goal.returns-clause-stand
-returns-clause-stand g c world answers name accepted own =
+pub returns-clause-occur : goal.returns-clause-occur
+returns-clause-occur g c world answers name accepted own =
     let v = g.F.ExactField.value in
     let limit = g.F.ExactField.limit in
-    kept-stand v world.program accepted (length world.program.labels) (last_state v limit world answers) (state-kept v limit world accepted own answers) name
+    kept-occur v world.program accepted (length world.program.labels) (last_state v limit world answers) (state-kept v limit world accepted own answers) name
 
 pub returns-clause-saved : goal.returns-clause-saved
 returns-clause-saved g c world answers most solver accepted own fit named =

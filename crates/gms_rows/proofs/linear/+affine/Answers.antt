@@ -16,7 +16,7 @@ use Rattle.gms_rows.specs.Forms.{Form, form_in, zero_form, scaled_form}
 use Rattle.gms_rows.specs.InnerContracts.{parts_in, signed_join, added_at, chain_form, total_form}
 use Rattle.gms_rows.proofs.Joins.{join-more, join-end, part-stops, join-stops}
 use Rattle.gms_rows.proofs.OtherNodes.{form-other}
-use Rattle.gms_rows.proofs.Parts.{affine-none, variable_answer, form-Ref, form-Fold, form-Neg, form-Plus, form-Times, form-Guard, part_mark, part_form, following, front_form, chain-is, chosen-so, chosen-not, constant-shows}
+use Rattle.gms_rows.proofs.Parts.{affine-none, variable_answer, form-Ref, form-Fold, form-Neg, form-Plus, form-Times, form-Guard, part_mark, part_form, following, prefix_form, chain-is, chosen-so, chosen-not, constant-shows}
 use Rattle.gms_rows.proofs.linear.+affine.Goals as goal
 
 pub affine-returns-then-not-has_variables : goal.affine-returns-then-not-has_variables
@@ -207,7 +207,7 @@ chain-returns-in_err-so_far g t c =
     let state = c.args.store.now in
     let b = c.args.b.now in
     let stop = c.in_err-so_far.field-0.0 in
-    handed_on v (form_in v) c.from_residual.result stop (chain_form v limit state b c.args.kind (parts_in c.args.parts.now)) c.from_residual.ensures.1 (stops-same v stop _ _ (chain-is v limit state b c.args.kind c.args.parts.now c.split_at.result.0.now c.split_at.result.1.now c.count_before_variables-count.result c.count_before_variables-count.ensures.count c.split_at.ensures.front c.split_at.ensures.back) (stops-then v stop (front_form v limit state b c.args.kind c.split_at.result.0.now) (following v limit state b c.args.kind c.split_at.result.1.now) c.in_err-so_far.ensures))
+    handed_on v (form_in v) c.from_residual.result stop (chain_form v limit state b c.args.kind (parts_in c.args.parts.now)) c.from_residual.ensures.1 (stops-same v stop _ _ (chain-is v limit state b c.args.kind c.args.parts.now c.split_at.result.0.now c.split_at.result.1.now c.count_before_variables-count.result c.count_before_variables-count.ensures.count c.split_at.ensures.front c.split_at.ensures.back) (stops-then v stop (prefix_form v limit state b c.args.kind c.split_at.result.0.now) (following v limit state b c.args.kind c.split_at.result.1.now) c.in_err-so_far.ensures))
 
 pub chain-loop-at-init : goal.chain-loop-at-init
 chain-loop-at-init g t c =

@@ -14,4 +14,4 @@ returns-in-Ok g c =
 pub returns-in-Err : goal.returns-in-Err
 returns-in-Err g c =
     let some : 1 ≤ g.F.ExactField.limit = omega (arith, g.met.F.ExactField.limit_range.0) in
-    stops-told g.F.ExactField.value c.args.at c.args.b.now (λ _. number (g.F.ExactField.value c.args.x)) (number_in_form (form_in g.F.ExactField.value c.args.form.now)) c.in-Err.fault c.behind_number.result (entries_by (product_form_step g.F.ExactField.limit) (form_in g.F.ExactField.value c.args.form.now) (g.F.ExactField.value c.args.x)) (told-product g.F.ExactField.value g.F.ExactField.limit some c.args.form.now (g.F.ExactField.value c.args.x) (Err c.in-Err.fault) c.keys.ensures.form c.in-Err.ensures) c.behind_number.ensures
+    stops-told g.F.ExactField.value c.args.at c.args.b.now (λ _. number (g.F.ExactField.value c.args.x)) (number_in_form (form_in g.F.ExactField.value c.args.form.now)) c.in-Err.fault c.after_number.result (entries_by (product_form_step g.F.ExactField.limit) (form_in g.F.ExactField.value c.args.form.now) (g.F.ExactField.value c.args.x)) (told-product g.F.ExactField.value g.F.ExactField.limit some c.args.form.now (g.F.ExactField.value c.args.x) (Err c.in-Err.fault) c.keys.ensures.form c.in-Err.ensures) c.after_number.ensures

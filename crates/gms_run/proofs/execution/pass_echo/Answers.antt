@@ -3,7 +3,7 @@ use Rattle.std.proofs.Common.{◌++◌, ◌∙◌, ap}
 use Rattle.std.proofs.lemmas.Result.{err_from_is_err_and}
 use Rattle.gms_list.specs.ListingText.{echo_text}
 use Rattle.gms_run.proofs.CallResults.{comes_put, writing_memory}
-use Rattle.gms_run.proofs.Reports.{behind_nothing}
+use Rattle.gms_run.proofs.Reports.{after_nothing}
 use Rattle.gms_run.proofs.execution.pass_echo.Goals as goal
 
 pub returns-in_err-echo_from-clause-outside : goal.returns-in_err-echo_from-clause-outside
@@ -18,4 +18,4 @@ returns-in_err-echo_from-clause-counts g c =
 
 pub returns-clause-outside : goal.returns-clause-outside
 returns-clause-outside g c =
-    comes_put c.pass.result _ _ _ (echo_text c.args.script.line c.args.script.file.now) c.pass.new.self.spool (ap (λ t. c.args.outlet.now.spool ++ t) c.in_ok-echo_from.ensures ∙ behind_nothing c.args.outlet.now.spool c.args.outlet.now.listing (echo_text c.args.script.line c.args.script.file.now) c.requires.empty) c.pass.ensures.outside
+    comes_put c.pass.result _ _ _ (echo_text c.args.script.line c.args.script.file.now) c.pass.new.self.spool (ap (λ t. c.args.outlet.now.spool ++ t) c.in_ok-echo_from.ensures ∙ after_nothing c.args.outlet.now.spool c.args.outlet.now.listing (echo_text c.args.script.line c.args.script.file.now) c.requires.empty) c.pass.ensures.outside

@@ -1,6 +1,6 @@
 use Rattle.gms_run_laws.proofs.FewPositions.{few-lasting}
 use Rattle.gms_run_laws.proofs.Lasting.{loaded-begins, start-lasts}
-use Rattle.gms_run_laws.proofs.LoadedPositions.{loaded-stands}
+use Rattle.gms_run_laws.proofs.LoadedPositions.{loaded-occurs}
 use Rattle.gms_run_laws.proofs.Starting.{begins-lasting}
 use Rattle.gms_run_laws.proofs.StaticDomains.{loaded-fixed}
 use Rattle.gms_run_laws.proofs.TidyLoaded.{loaded-well}
@@ -21,7 +21,7 @@ returns-clause-few g c world first state name accepted may reached =
     few-lasting v world.program state name accepted (start-lasts v g.F.ExactField.limit world first state (begins-lasting v world.program first may) reached)
 
 pub returns-clause-begins : goal.returns-clause-begins
-returns-clause-begins g c = loaded-stands g.F.ExactField.value
+returns-clause-begins g c = loaded-occurs g.F.ExactField.value
 
 pub returns-clause-fixed : goal.returns-clause-fixed
 returns-clause-fixed g c = loaded-fixed g.F.ExactField.value

@@ -15,7 +15,7 @@ returns-clause-once g c world statement target condition right_at right first st
     run-once v limit world statement target condition right_at right state binding given accepted of_program is (start-lasts v limit world first state (begins-lasting v world.program first may) reached) e
 
 pub returns-clause-simple : goal.returns-clause-simple
-returns-clause-simple g c world before statement set first state stands one may reached =
+returns-clause-simple g c world before statement set first state occurs one may reached =
     let v = g.F.ExactField.value in
     let limit = g.F.ExactField.limit in
-    index-simple v limit world before statement set state stands one (start-lasts v limit world first state (begins-lasting v world.program first may) reached)
+    index-simple v limit world before statement set state occurs one (start-lasts v limit world first state (begins-lasting v world.program first may) reached)

@@ -1,12 +1,12 @@
 use Rattle.std.proofs.Common.{◌≡◌, ◌∙◌, ◌++◌, ◌∷◌, ℕ, List, codes, decimal}
 use Rattle.gms_save_text.specs.SavedState.{saved_line}
 use Rattle.gms_save_text.proofs.Finding.{handed_on}
-use Rattle.gms_save_text.proofs.Lines.{line_front, line_last}
+use Rattle.gms_save_text.proofs.Lines.{line_prefix, line_last}
 use Rattle.gms_save_text.proofs.parts.head_at.Goals as goal
 
 -- the line, item by item
 line : (word name : List ℕ) (n : ℕ) (rest : List ℕ) → saved_line (word ++ (name ++ (codes " " ++ decimal n))) ++ rest ≡ word ++ (name ++ 32 ∷ (decimal n ++ 10 ∷ rest))
-line word name n rest = line_front word (name ++ 32 ∷ decimal n) rest (name ++ 32 ∷ (decimal n ++ 10 ∷ rest)) (line_last name (decimal n) rest)
+line word name n rest = line_prefix word (name ++ 32 ∷ decimal n) rest (name ++ 32 ∷ (decimal n ++ 10 ∷ rest)) (line_last name (decimal n) rest)
 
 pub returns-in_err-following : goal.returns-in_err-following
 returns-in_err-following c n rest few is =

@@ -5,7 +5,7 @@ use Rattle.gms_save_text.specs.SavedState.{saved_line, entry_lines}
 use Rattle.gms_save_text.specs.Reading.{IsReadable}
 use Rattle.gms_save_text.proofs.Filling.{filled_again}
 use Rattle.gms_save_text.proofs.Finding.{handed_on, found_more, nothing_on}
-use Rattle.gms_save_text.proofs.Sorts.{alias_too, kind_too, alias_front, emptied_alias, emptied_undeclared, undeclared_part, kept, own_symbol, has_entries, entries_front, lines_count, differing, counted}
+use Rattle.gms_save_text.proofs.Sorts.{alias_too, kind_too, alias_prefix, emptied_alias, emptied_undeclared, undeclared_part, kept, own_symbol, has_entries, entries_prefix, lines_count, differing, counted}
 use Rattle.gms_save_text.proofs.parts.read_part.Goals as goal
 
 -- ---- aliases
@@ -14,7 +14,7 @@ pub returns-then-is_alias-clause-part : goal.returns-then-is_alias-clause-part
 returns-then-is_alias-clause-part g c content rest within readable is =
     let declared = symbol_at c.args.store.now c.args.number in
     let alias = alias_too g.F.ExactField.limit declared content _ readable (sym c.is_alias.ensures ∙ c.if-is_alias.true) in
-    let following = c.in_ok-following.ensures (10 ∷ rest) (is ∙ alias_front c.args.name.now content rest alias) in
+    let following = c.in_ok-following.ensures (10 ∷ rest) (is ∙ alias_prefix c.args.name.now content rest alias) in
     let same = kept c.args.store.now c.args.number content within (readable.declared ∙ emptied_alias content alias) in
     found_more c.strip.result _ _ (λ r left. (left, same)) (c.strip.ensures rest following)
 
@@ -36,7 +36,7 @@ returns-in_err-count-in_default g c = record {
       let alias = alias_too g.F.ExactField.limit declared content _ readable (sym c.is_alias.ensures ∙ c.if-is_alias.false) in
       let same = kind_too g.F.ExactField.limit declared content sort readable (sym c.kind_of.ensures) in
       let count = length (given_in content) in
-      let line = is ∙ entries_front c.args.name.now content sort rest alias same c.in_default.not-Undeclared c.in_default.not-Model ∙ ap (λ (w : List ℕ). saved_line (w ++ (c.args.name.now ++ (codes " " ++ decimal count))) ++ (entry_lines content ++ rest)) (sym c.kind_word.ensures) in
+      let line = is ∙ entries_prefix c.args.name.now content sort rest alias same c.in_default.not-Undeclared c.in_default.not-Model ∙ ap (λ (w : List ℕ). saved_line (w ++ (c.args.name.now ++ (codes " " ++ decimal count))) ++ (entry_lines content ++ rest)) (sym c.kind_word.ensures) in
       handed_on _ _ _ _ c.from_residual-in_err-count-in_default.ensures.1 (c.in_err-count-in_default.ensures count (entry_lines content ++ rest) (lines_count content rest) line);
   declared = nothing_on _ _ c.from_residual-in_err-count-in_default.ensures.0;
 }
@@ -52,7 +52,7 @@ returns-in_ok-count-in_default g c = record {
       let alias = alias_too g.F.ExactField.limit declared content _ readable own in
       let same = kind_too g.F.ExactField.limit declared content sort readable (sym c.kind_of.ensures) in
       let count = length (given_in content) in
-      let line = is ∙ entries_front c.args.name.now content sort rest alias same c.in_default.not-Undeclared c.in_default.not-Model ∙ ap (λ (w : List ℕ). saved_line (w ++ (c.args.name.now ++ (codes " " ++ decimal count))) ++ (entry_lines content ++ rest)) (sym c.kind_word.ensures) in
+      let line = is ∙ entries_prefix c.args.name.now content sort rest alias same c.in_default.not-Undeclared c.in_default.not-Model ∙ ap (λ (w : List ℕ). saved_line (w ++ (c.args.name.now ++ (codes " " ++ decimal count))) ++ (entry_lines content ++ rest)) (sym c.kind_word.ensures) in
       let head = c.in_ok-count-in_default.ensures count (entry_lines content ++ rest) (lines_count content rest) line in
       let has = has_entries content sort alias same c.in_default.not-Undeclared c.in_default.not-Model in
       let arity : length c.domain_of-arity.result.now ≡ length declared.domain = ap length (c.domain_of-arity.ensures ∙ ap (λ (s : Symbol). s.domain) (own_symbol store number own)) in

@@ -27,7 +27,7 @@ returns-then-not-branch g c =
     let within : k < length tuples = subst (λ (n : ℕ). k < n) (c.len-place-end.ensures.len ∙ ap length given) c.loop-place-test.true in
     let tuple : c.as_slice.result.now ≡ get_or tuples k [] = c.as_slice.ensures.value ∙ sym (get_or_from_slice_get _ k _ [] c.get.ensures) ∙ ap (λ (ts : List (List ℕ)). get_or ts k []) given in
     let here : c.in_ok-fits_domain.field-0 ≡ fits_domain labels store symbol.domain (get_or tuples k []) = c.in_ok-fits_domain.ensures ∙ ap₂ (λ (d : List (Option ℕ)) (t : List ℕ). fits_domain labels store d t) domain tuple in
-    (λ e. absurd (both_ways false refl e), λ well. absurd (both_ways c.in_ok-fits_domain.field-0 c.if-not-branch.true (here ∙ All-get_or (λ t. fits_domain labels store symbol.domain t ≡ true) tuples k [] within well.stand)))
+    (λ e. absurd (both_ways false refl e), λ well. absurd (both_ways c.in_ok-fits_domain.field-0 c.if-not-branch.true (here ∙ All-get_or (λ t. fits_domain labels store symbol.domain t ≡ true) tuples k [] within well.occur)))
 
 pub loop-place-preserved : goal.loop-place-preserved
 loop-place-preserved g c =
@@ -43,7 +43,7 @@ loop-place-preserved g c =
     let tuple : c.as_slice.result.now ≡ get_or tuples k [] = c.as_slice.ensures.value ∙ sym (get_or_from_slice_get _ k _ [] c.get.ensures) ∙ ap (λ (ts : List (List ℕ)). get_or ts k []) given in
     let here : c.in_ok-fits_domain.field-0 ≡ fits_domain labels store symbol.domain (get_or tuples k []) = c.in_ok-fits_domain.ensures ∙ ap₂ (λ (d : List (Option ℕ)) (t : List ℕ). fits_domain labels store d t) domain tuple in
     record {
-      stand = All-more (λ t. fits_domain labels store symbol.domain t ≡ true) tuples k [] within c.loop-place.invariant.stand (sym here ∙ c.if-not-branch.false);
+      occur = All-more (λ t. fits_domain labels store symbol.domain t ≡ true) tuples k [] within c.loop-place.invariant.occur (sym here ∙ c.if-not-branch.false);
       few = All-more (λ t. length t ≤ 10) tuples k [] within c.loop-place.invariant.few (subst (λ (t : List ℕ). length t ≤ 10) tuple c.as_slice.ensures.most);
     }
 
@@ -61,7 +61,7 @@ returns g c =
       λ _. record {
         ordered = subst IsOrdered given c.given-given.ensures.ordered;
         few = subst (All (λ t. length t ≤ 10)) all c.loop-place.invariant.few;
-        stand = subst (All (λ t. fits_domain labels store symbol.domain t ≡ true)) all c.loop-place.invariant.stand;
+        occur = subst (All (λ t. fits_domain labels store symbol.domain t ≡ true)) all c.loop-place.invariant.occur;
         fit = λ t. ap (λ (s : Symbol). fits_at g.F.ExactField.limit s.content t) (sym of) ∙ c.given-given.ensures.fit t;
         differs = λ t. ap (λ (ts : List (List ℕ)). has ts t) (sym given) ∙ c.given-given.ensures.differs t ∙ ap (λ (s : Symbol). differs_in s.content t) of;
         statuses = ap (λ (s : Symbol). are_statuses (statuses_in s.content).0 (statuses_in s.content).1) (sym of) ∙ ap (λ (p : ℕ × ℕ). are_statuses p.0 p.1) (sym c.status-model.ensures) ∙ sym c.are_statuses.ensures ∙ c.if-not-are_statuses.false;

@@ -5,6 +5,6 @@ use Rattle.gms_save_text.proofs.validity.is_given_well.Given as goal
 
 abbrev pub invariant-loop-place : goal.invariant-loop-place
 invariant-loop-place g l = record {
-  stand : All (λ t. fits_domain l.labels l.store (symbol_at l.store l.name).domain t ≡ true) (take l.place (given_in (symbol_at l.store l.name).content));
+  occur : All (λ t. fits_domain l.labels l.store (symbol_at l.store l.name).domain t ≡ true) (take l.place (given_in (symbol_at l.store l.name).content));
   few : All (λ t. length t ≤ 10) (take l.place (given_in (symbol_at l.store l.name).content));
 }

@@ -29,39 +29,39 @@ attributes_are : (a : Attributes) (l u : Option Number) (v m : Number) → l ≡
 attributes_are a l u v m e f i j = rw (e, f, i, j) refl
 
 -- the text after the first three
-abbrev behind_level : Attributes → List ℕ → List ℕ
-behind_level a rest = exact_text a.marginal ++ 10 ∷ rest
+abbrev after_level : Attributes → List ℕ → List ℕ
+after_level a rest = exact_text a.marginal ++ 10 ∷ rest
 
-abbrev behind_upper : Attributes → List ℕ → List ℕ
-behind_upper a rest = exact_text a.level ++ 32 ∷ behind_level a rest
+abbrev after_upper : Attributes → List ℕ → List ℕ
+after_upper a rest = exact_text a.level ++ 32 ∷ after_level a rest
 
-abbrev behind_lower : Attributes → List ℕ → List ℕ
-behind_lower a rest = bound_text (codes "+INF") a.upper ++ 32 ∷ behind_upper a rest
+abbrev after_lower : Attributes → List ℕ → List ℕ
+after_lower a rest = bound_text (codes "+INF") a.upper ++ 32 ∷ after_upper a rest
 
 -- the line, item by item
-line : (a : Attributes) (rest : List ℕ) → saved_line (attributes_text a) ++ rest ≡ bound_text (codes "-INF") a.lower ++ 32 ∷ behind_lower a rest
+line : (a : Attributes) (rest : List ℕ) → saved_line (attributes_text a) ++ rest ≡ bound_text (codes "-INF") a.lower ++ 32 ∷ after_lower a rest
 line a rest = four_items (bound_text (codes "-INF") a.lower) (bound_text (codes "+INF") a.upper) (exact_text a.level) (exact_text a.marginal) rest
 
 pub returns-in_err-level : goal.returns-in_err-level
 returns-in_err-level g c a rest fit is =
     let all = fit_all g.F.ExactField.limit a fit in
-    let first = c.in_ok-lower.ensures a.lower (behind_lower a rest) all.lower (is ∙ line a rest) in
-    let second = c.in_ok-upper.ensures a.upper (behind_upper a rest) all.upper first.1 in
-    handed_on _ _ _ _ c.from_residual-in_err-level.ensures.1 (c.in_err-level.ensures a.level (behind_level a rest) all.level second.1)
+    let first = c.in_ok-lower.ensures a.lower (after_lower a rest) all.lower (is ∙ line a rest) in
+    let second = c.in_ok-upper.ensures a.upper (after_upper a rest) all.upper first.1 in
+    handed_on _ _ _ _ c.from_residual-in_err-level.ensures.1 (c.in_err-level.ensures a.level (after_level a rest) all.level second.1)
 
 pub returns-in_err-marginal : goal.returns-in_err-marginal
 returns-in_err-marginal g c a rest fit is =
     let all = fit_all g.F.ExactField.limit a fit in
-    let first = c.in_ok-lower.ensures a.lower (behind_lower a rest) all.lower (is ∙ line a rest) in
-    let second = c.in_ok-upper.ensures a.upper (behind_upper a rest) all.upper first.1 in
-    let third = c.in_ok-level.ensures a.level (behind_level a rest) all.level second.1 in
+    let first = c.in_ok-lower.ensures a.lower (after_lower a rest) all.lower (is ∙ line a rest) in
+    let second = c.in_ok-upper.ensures a.upper (after_upper a rest) all.upper first.1 in
+    let third = c.in_ok-level.ensures a.level (after_level a rest) all.level second.1 in
     handed_on _ _ _ _ c.from_residual-in_err-marginal.ensures.1 (c.in_err-marginal.ensures a.marginal rest all.marginal third.1)
 
 pub returns : goal.returns
 returns g c a rest fit is =
     let all = fit_all g.F.ExactField.limit a fit in
-    let first = c.in_ok-lower.ensures a.lower (behind_lower a rest) all.lower (is ∙ line a rest) in
-    let second = c.in_ok-upper.ensures a.upper (behind_upper a rest) all.upper first.1 in
-    let third = c.in_ok-level.ensures a.level (behind_level a rest) all.level second.1 in
+    let first = c.in_ok-lower.ensures a.lower (after_lower a rest) all.lower (is ∙ line a rest) in
+    let second = c.in_ok-upper.ensures a.upper (after_upper a rest) all.upper first.1 in
+    let third = c.in_ok-level.ensures a.level (after_level a rest) all.level second.1 in
     let fourth = c.in_ok-marginal.ensures a.marginal rest all.marginal third.1 in
     (attributes_are a _ _ _ _ first.0 second.0 third.0 fourth.0, fourth.1)

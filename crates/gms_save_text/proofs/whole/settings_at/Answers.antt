@@ -6,15 +6,15 @@ use Rattle.gms_save_text.specs.SavedState.{switch_text, settings_line}
 use Rattle.gms_save_text.specs.Validity.{are_in_range}
 use Rattle.gms_save_text.specs.Reading.{unplaced}
 use Rattle.gms_save_text.proofs.Finding.{handed_on}
-use Rattle.gms_save_text.proofs.Lines.{line_front, line_item, line_last}
+use Rattle.gms_save_text.proofs.Lines.{line_prefix, line_item, line_last}
 use Rattle.gms_save_text.proofs.whole.settings_at.Goals as goal
 
 -- the text after the items of the line
-abbrev behind_solver : List ℕ → List ℕ → List ℕ
-behind_solver solver rest = solver ++ 10 ∷ rest
+abbrev after_solver : List ℕ → List ℕ → List ℕ
+after_solver solver rest = solver ++ 10 ∷ rest
 
 abbrev at_solprint : Settings → List ℕ → List ℕ → List ℕ
-at_solprint s solver rest = switch_text s.solprint ++ 32 ∷ behind_solver solver rest
+at_solprint s solver rest = switch_text s.solprint ++ 32 ∷ after_solver solver rest
 
 abbrev at_decimals : Settings → List ℕ → List ℕ → List ℕ
 at_decimals s solver rest = decimal s.decimals ++ 32 ∷ at_solprint s solver rest
@@ -31,7 +31,7 @@ at_limrow s solver rest = decimal s.limrow ++ 32 ∷ at_limcol s solver rest
 -- the line, item by item
 line : (s : Settings) (solver rest : List ℕ) → settings_line s solver ++ rest ≡ codes "settings " ++ at_limrow s solver rest
 line s solver rest =
-    line_front (codes "settings ") (decimal s.limrow ++ 32 ∷ (decimal s.limcol ++ 32 ∷ (decimal s.iterlim ++ 32 ∷ (decimal s.decimals ++ 32 ∷ (switch_text s.solprint ++ 32 ∷ solver))))) rest (at_limrow s solver rest)
+    line_prefix (codes "settings ") (decimal s.limrow ++ 32 ∷ (decimal s.limcol ++ 32 ∷ (decimal s.iterlim ++ 32 ∷ (decimal s.decimals ++ 32 ∷ (switch_text s.solprint ++ 32 ∷ solver))))) rest (at_limrow s solver rest)
     (line_item (decimal s.limrow) (decimal s.limcol ++ 32 ∷ (decimal s.iterlim ++ 32 ∷ (decimal s.decimals ++ 32 ∷ (switch_text s.solprint ++ 32 ∷ solver)))) rest (at_limcol s solver rest)
     (line_item (decimal s.limcol) (decimal s.iterlim ++ 32 ∷ (decimal s.decimals ++ 32 ∷ (switch_text s.solprint ++ 32 ∷ solver))) rest (at_iterlim s solver rest)
     (line_item (decimal s.iterlim) (decimal s.decimals ++ 32 ∷ (switch_text s.solprint ++ 32 ∷ solver)) rest (at_decimals s solver rest)
@@ -101,7 +101,7 @@ returns-in_err-solprint c s solver rest range none is =
     let limcol = c.in_ok-limcol.ensures s.limcol (at_iterlim s solver rest) small.limcol limrow.1 in
     let iterlim = c.in_ok-iterlim.ensures s.iterlim (at_decimals s solver rest) small.iterlim limcol.1 in
     let decimals = c.in_ok-decimals.ensures s.decimals (at_solprint s solver rest) small.decimals iterlim.1 in
-    handed_on _ _ _ _ c.from_residual-in_err-solprint.ensures.1 (c.in_err-solprint.ensures s.solprint (behind_solver solver rest) decimals.1)
+    handed_on _ _ _ _ c.from_residual-in_err-solprint.ensures.1 (c.in_err-solprint.ensures s.solprint (after_solver solver rest) decimals.1)
 
 pub returns-in_err-solver : goal.returns-in_err-solver
 returns-in_err-solver c s solver rest range none is =
@@ -111,7 +111,7 @@ returns-in_err-solver c s solver rest range none is =
     let limcol = c.in_ok-limcol.ensures s.limcol (at_iterlim s solver rest) small.limcol limrow.1 in
     let iterlim = c.in_ok-iterlim.ensures s.iterlim (at_decimals s solver rest) small.iterlim limcol.1 in
     let decimals = c.in_ok-decimals.ensures s.decimals (at_solprint s solver rest) small.decimals iterlim.1 in
-    let solprint = c.in_ok-solprint.ensures s.solprint (behind_solver solver rest) decimals.1 in
+    let solprint = c.in_ok-solprint.ensures s.solprint (after_solver solver rest) decimals.1 in
     handed_on _ _ _ _ c.from_residual-in_err-solver.ensures.1 (c.in_err-solver.ensures solver rest none solprint.1)
 
 pub returns : goal.returns
@@ -122,6 +122,6 @@ returns c s solver rest range none is =
     let limcol = c.in_ok-limcol.ensures s.limcol (at_iterlim s solver rest) small.limcol limrow.1 in
     let iterlim = c.in_ok-iterlim.ensures s.iterlim (at_decimals s solver rest) small.iterlim limcol.1 in
     let decimals = c.in_ok-decimals.ensures s.decimals (at_solprint s solver rest) small.decimals iterlim.1 in
-    let solprint = c.in_ok-solprint.ensures s.solprint (behind_solver solver rest) decimals.1 in
+    let solprint = c.in_ok-solprint.ensures s.solprint (after_solver solver rest) decimals.1 in
     let last = c.in_ok-solver.ensures solver rest none solprint.1 in
     (settings_are s _ _ _ _ _ limrow.0 limcol.0 iterlim.0 decimals.0 solprint.0, last.0, last.1)

@@ -4,7 +4,7 @@ use Rattle.gms_store.specs.State.{Content, Symbol, model_with, symbol_at, given_
 use Rattle.gms_save_text.specs.SavedState.{saved_line, entry_lines, head_line, part}
 use Rattle.gms_save_text.specs.Reading.{kind_word}
 use Rattle.gms_save_text.proofs.Finding.{on_success}
-use Rattle.gms_save_text.proofs.Pieces.{piece_behind}
+use Rattle.gms_save_text.proofs.Pieces.{piece_after}
 use Rattle.gms_save_text.proofs.Sorts.{alias_line, undeclared_part, model_content, entries_part, has_entries, own_symbol}
 use Rattle.gms_save_text.proofs.writing.push_part.Goals as goal
 
@@ -13,7 +13,7 @@ returns-then-is_alias g c =
     let name = c.args.name.now in
     let old = c.args.into.now.items in
     let alias = sym c.is_alias.ensures ∙ c.if-is_alias.true in
-    on_success c.push.result _ _ (λ last. piece_behind old (codes "alias " ++ name) (codes "\n") _ _ c.in_ok-push_name.ensures last ∙ ap (λ (p : List ℕ). old ++ p) (sym (alias_line name (symbol_at c.args.store.now c.args.number).content alias))) c.push.ensures
+    on_success c.push.result _ _ (λ last. piece_after old (codes "alias " ++ name) (codes "\n") _ _ c.in_ok-push_name.ensures last ∙ ap (λ (p : List ℕ). old ++ p) (sym (alias_line name (symbol_at c.args.store.now c.args.number).content alias))) c.push.ensures
 
 pub returns-in-Undeclared : goal.returns-in-Undeclared
 returns-in-Undeclared g c =
@@ -42,4 +42,4 @@ returns-in_ok-push_head-in_default g c =
     let own = sym c.is_alias.ensures ∙ c.if-is_alias.false in
     let count : c.len.result ≡ length (given_in content) = c.len.ensures.len ∙ ap length (c.given.ensures.value ∙ ap (λ (s : Symbol). given_in s.content) (own_symbol store c.args.number own)) in
     let head = c.in_ok-push_head-in_default.ensures ∙ ap₂ (λ (w : List ℕ) (n : ℕ). old ++ saved_line (w ++ (name ++ (codes " " ++ decimal n)))) c.kind_word.ensures count in
-    on_success c.push_entries.result _ _ (λ last. piece_behind old (head_line (kind_word kind) name content) (entry_lines content) _ _ head last ∙ ap (λ (p : List ℕ). old ++ p) (sym (entries_part name content kind own (sym c.kind_of.ensures) c.in_default.not-Undeclared c.in_default.not-Model))) c.push_entries.ensures
+    on_success c.push_entries.result _ _ (λ last. piece_after old (head_line (kind_word kind) name content) (entry_lines content) _ _ head last ∙ ap (λ (p : List ℕ). old ++ p) (sym (entries_part name content kind own (sym c.kind_of.ensures) c.in_default.not-Undeclared c.in_default.not-Model))) c.push_entries.ensures

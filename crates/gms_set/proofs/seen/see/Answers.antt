@@ -7,8 +7,8 @@ use Rattle.gms_set.specs.Expansion.{tuples_of}
 use Rattle.gms_set.proofs.LaterTuples.{new-following, seen-more}
 use Rattle.gms_set.proofs.seen.see.Goals as goal
 
-pub returns-then-is_behind-clause-new : goal.returns-then-is_behind-clause-new
-returns-then-is_behind-clause-new g c = sym (ap not (new-following (tuples_of c.args.given.now) c.args.tuple.now (c.is_behind.ensures c.if-is_behind.true)))
+pub returns-then-is_after-clause-new : goal.returns-then-is_after-clause-new
+returns-then-is_after-clause-new g c = sym (ap not (new-following (tuples_of c.args.given.now) c.args.tuple.now (c.is_after.ensures c.if-is_after.true)))
 
 pub returns-clause-more : goal.returns-clause-more
 returns-clause-more g c = λ new.

@@ -2,18 +2,18 @@ use Rattle.std.proofs.Common.{◌≡◌, ◌∙◌, ◌+◌, ◌-◌, ◌<◌, �
 use Rattle.std.proofs.lemmas.List.{take_rest, length-drop}
 use mir.Val.{bool_byte}
 use Rattle.gms_tuple.specs.InnerOperations.{takes, turn}
-use Rattle.gms_tuple.proofs.Combined.{IsWalked-all, IsWalked-turn, turn-within, turn-other, first-of-rest, has-combine, IsOrdered-combine, one_if}
+use Rattle.gms_tuple.proofs.Combined.{IsTraversed-all, IsTraversed-turn, turn-within, turn-other, first-of-rest, has-combine, IsOrdered-combine, one_if}
 use Rattle.gms_tuple.proofs.merge.combined.Goals as goal
 use Rattle.gms_tuple.proofs.merge.combined.Goals.{then-i-first, else-i-first+then-j-second, then-in_first, else-in_first, then-takes+in_ok-copy+in_ok-push, else-takes}
 
 pub returns-clause-members : goal.returns-clause-members
 returns-clause-members c =
-    let made = IsWalked-all c.args.operation c.args.first.now c.args.second.now c.loop-i.made.items c.loop-i.i c.loop-i.j c.if-i-first.false c.if-j-second.false c.loop-i.invariant in
+    let made = IsTraversed-all c.args.operation c.args.first.now c.args.second.now c.loop-i.made.items c.loop-i.i c.loop-i.j c.if-i-first.false c.if-j-second.false c.loop-i.invariant in
     λ t. rw made (has-combine c.args.operation c.args.first.now c.args.second.now t)
 
 pub returns-clause-ordered : goal.returns-clause-ordered
 returns-clause-ordered c =
-    let made = IsWalked-all c.args.operation c.args.first.now c.args.second.now c.loop-i.made.items c.loop-i.i c.loop-i.j c.if-i-first.false c.if-j-second.false c.loop-i.invariant in
+    let made = IsTraversed-all c.args.operation c.args.first.now c.args.second.now c.loop-i.made.items c.loop-i.i c.loop-i.j c.if-i-first.false c.if-j-second.false c.loop-i.invariant in
     rw made (IsOrdered-combine c.args.operation c.args.first.now c.args.second.now c.requires.first)
 
 byte-is : (b : Bool) → bool_byte b ≡ one_if b
@@ -51,5 +51,5 @@ loop-i-preserved c =
           ∙ sym (ap (λ b. cond b more c.loop-i.made.items) (sym c.takes.ensures ∙ w.if-takes.true))
       | else-takes w ↦ ap (λ (made : _). made.items) w.made-is ∙ sym (ap (λ b. cond b more c.loop-i.made.items) (sym c.takes.ensures ∙ w.if-takes.false))
     ] in
-    IsWalked-turn c.args.operation c.args.first.now c.args.second.now c.loop-i.made.items c.loop-i.i c.loop-i.j c.turn-in_first.result c.if-in_first.next.now c.if-takes.made.items (c.loop-i.i + c.from.result) (c.loop-i.j + c.from-in-loop-i.result) c.requires.first c.requires.second c.loop-i.invariant some turned next pushed
+    IsTraversed-turn c.args.operation c.args.first.now c.args.second.now c.loop-i.made.items c.loop-i.i c.loop-i.j c.turn-in_first.result c.if-in_first.next.now c.if-takes.made.items (c.loop-i.i + c.from.result) (c.loop-i.j + c.from-in-loop-i.result) c.requires.first c.requires.second c.loop-i.invariant some turned next pushed
     (ap (λ n. c.loop-i.i + n) (c.from.ensures ∙ byte-is c.turn-in_first.result.0)) (ap (λ n. c.loop-i.j + n) (c.from-in-loop-i.ensures ∙ byte-is c.turn-in_first.result.1))

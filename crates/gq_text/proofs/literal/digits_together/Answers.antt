@@ -17,6 +17,6 @@ pub returns : goal.returns
 returns c =
     let prefix = c.in_ok-spelled.ensures in
     let all = spelled-append c.args.whole.now c.args.fraction.now in
-    let front_is : c.in_ok-spelled.field-0 ≡ spelled c.args.whole.now = omega arith in
-    let e : c.in_ok-spelled.field-0 * 10 ^ length c.args.fraction.now + spelled c.args.fraction.now ≡ spelled (c.args.whole.now ++ c.args.fraction.now) = ap (λ n. n * 10 ^ length c.args.fraction.now + spelled c.args.fraction.now) front_is ∙ sym all in
+    let prefix_is : c.in_ok-spelled.field-0 ≡ spelled c.args.whole.now = omega arith in
+    let e : c.in_ok-spelled.field-0 * 10 ^ length c.args.fraction.now + spelled c.args.fraction.now ≡ spelled (c.args.whole.now ++ c.args.fraction.now) = ap (λ n. n * 10 ^ length c.args.fraction.now + spelled c.args.fraction.now) prefix_is ∙ sym all in
     SomeIff-same c.spelled-2.result _ _ _ _ (λ small. omega arith) (λ small. omega arith) e c.spelled-2.ensures

@@ -3,12 +3,12 @@ use Rattle.std.proofs.Common.{◌≡◌, ◌+◌, ◌*◌, ◌^◌, length, take
 use Rattle.std.proofs.Math.Seq.{take-length}
 use Rattle.gq_text.specs.Numeral.{spelled}
 use Rattle.gq_text.proofs.Options.{SomeIff-none}
-use Rattle.gq_text.proofs.Zeros.{prefix-le, front_more, digit_low}
+use Rattle.gq_text.proofs.Zeros.{prefix-le, prefix_more, digit_low}
 use Rattle.gq_text.proofs.literal.spelled.Goals as goal
 
 pub returns-in_err-checked_mul : goal.returns-in_err-checked_mul
 returns-in_err-checked_mul c =
-    let next = front_more c.args.prefix c.loop-digit.digit-index c.args.digits.now (omega arith) in
+    let next = prefix_more c.args.prefix c.loop-digit.digit-index c.args.digits.now (omega arith) in
     let most = prefix-le c.args.prefix (c.loop-digit.digit-index + 1) c.args.digits.now (omega arith) in
     let now = c.loop-digit.invariant.0 in
     SomeIff-none _ _ _ c.from_residual.ensures (λ small. c.in_err-checked_mul.ensures (omega arith))
@@ -21,7 +21,7 @@ overflow_sub-digit c = digit_low c.args.digits.now c.loop-digit.digit-index c.re
 
 pub returns-in_err-value : goal.returns-in_err-value
 returns-in_err-value c =
-    let next = front_more c.args.prefix c.loop-digit.digit-index c.args.digits.now (omega arith) in
+    let next = prefix_more c.args.prefix c.loop-digit.digit-index c.args.digits.now (omega arith) in
     let most = prefix-le c.args.prefix (c.loop-digit.digit-index + 1) c.args.digits.now (omega arith) in
     let now = c.loop-digit.invariant.0 in
     let product = c.in_ok-checked_mul.ensures in
@@ -29,7 +29,7 @@ returns-in_err-value c =
 
 pub loop-digit-preserved : goal.loop-digit-preserved
 loop-digit-preserved c =
-    let next = front_more c.args.prefix c.loop-digit.digit-index c.args.digits.now (omega arith) in
+    let next = prefix_more c.args.prefix c.loop-digit.digit-index c.args.digits.now (omega arith) in
     let now = c.loop-digit.invariant.0 in
     let product = c.in_ok-checked_mul.ensures in
     let sum = c.in_ok-value.ensures in

@@ -4,7 +4,7 @@ use Rattle.std.proofs.lemmas.Result.{err_from_is_err_and}
 use Rattle.gq_number.specs.Number.{whole}
 use Rattle.lp_check.specs.BoundSteps.{all_reduced_steps, row_bound_steps, rows_sum, columns_steps, columns_sum}
 use Rattle.lp_check.specs.Partials.{costs_of, reduced_costs, Took, Reaches}
-use Rattle.lp_check.proofs.Fits.{reaches_behind, stops_before, stops_behind, took_both}
+use Rattle.lp_check.proofs.Fits.{reaches_after, stops_before, stops_after, took_both}
 use Rattle.lp_check.proofs.bound.bound_over.Goals as goal
 
 pub reduced_costs_fit-requires-clause-within_bound : goal.reduced_costs_fit-requires-clause-within_bound
@@ -33,12 +33,12 @@ returns-in_err-taken g c =
 pub returns-in_err-part : goal.returns-in_err-part
 returns-in_err-part g c =
     let p = err_from_is_err_and c.from_residual-in_err-part.result c.from_residual-in_err-part.ensures.1 in
-    rw (p.1, p.2) (stops_before 0 ((all_reduced_steps g.F.ExactField.value g.F.ExactField.limit (costs_of c.args.objective) c.args.rows.now (map g.F.ExactField.value c.args.duals.now) 0 c.args.columns.now) ++ (row_bound_steps g.F.ExactField.value g.F.ExactField.limit c.args.above (whole (pos 0)) c.args.rows.now (map g.F.ExactField.value c.args.duals.now))) (columns_steps g.F.ExactField.value g.F.ExactField.limit c.args.above (reduced_costs g.F.ExactField.value (costs_of c.args.objective) c.args.rows.now (map g.F.ExactField.value c.args.duals.now)) (rows_sum g.F.ExactField.value c.args.above (whole (pos 0)) c.args.rows.now (map g.F.ExactField.value c.args.duals.now)) 0 c.args.columns.now) c.in_err-part.field-0.0 (stops_behind 0 c.in_ok-taken.taken (all_reduced_steps g.F.ExactField.value g.F.ExactField.limit (costs_of c.args.objective) c.args.rows.now (map g.F.ExactField.value c.args.duals.now) 0 c.args.columns.now) (row_bound_steps g.F.ExactField.value g.F.ExactField.limit c.args.above (whole (pos 0)) c.args.rows.now (map g.F.ExactField.value c.args.duals.now)) c.in_err-part.field-0.0 c.in_ok-taken.ensures (rw c.zero-sum.ensures at c.in_err-part.ensures)))
+    rw (p.1, p.2) (stops_before 0 ((all_reduced_steps g.F.ExactField.value g.F.ExactField.limit (costs_of c.args.objective) c.args.rows.now (map g.F.ExactField.value c.args.duals.now) 0 c.args.columns.now) ++ (row_bound_steps g.F.ExactField.value g.F.ExactField.limit c.args.above (whole (pos 0)) c.args.rows.now (map g.F.ExactField.value c.args.duals.now))) (columns_steps g.F.ExactField.value g.F.ExactField.limit c.args.above (reduced_costs g.F.ExactField.value (costs_of c.args.objective) c.args.rows.now (map g.F.ExactField.value c.args.duals.now)) (rows_sum g.F.ExactField.value c.args.above (whole (pos 0)) c.args.rows.now (map g.F.ExactField.value c.args.duals.now)) 0 c.args.columns.now) c.in_err-part.field-0.0 (stops_after 0 c.in_ok-taken.taken (all_reduced_steps g.F.ExactField.value g.F.ExactField.limit (costs_of c.args.objective) c.args.rows.now (map g.F.ExactField.value c.args.duals.now) 0 c.args.columns.now) (row_bound_steps g.F.ExactField.value g.F.ExactField.limit c.args.above (whole (pos 0)) c.args.rows.now (map g.F.ExactField.value c.args.duals.now)) c.in_err-part.field-0.0 c.in_ok-taken.ensures (rw c.zero-sum.ensures at c.in_err-part.ensures)))
 
 pub returns : goal.returns
 returns g c =
     let sum : g.F.ExactField.value c.in_ok-part.part.sum ≡ rows_sum g.F.ExactField.value c.args.above (whole (pos 0)) c.args.rows.now (map g.F.ExactField.value c.args.duals.now) = rw c.zero-sum.ensures at c.in_ok-part.ensures.1 in
     let took : Took c.in_ok-taken.taken (row_bound_steps g.F.ExactField.value g.F.ExactField.limit c.args.above (whole (pos 0)) c.args.rows.now (map g.F.ExactField.value c.args.duals.now)) c.in_ok-part.part.taken = rw c.zero-sum.ensures at c.in_ok-part.ensures.0 in
-    reaches_behind g.F.ExactField.value 0 c.in_ok-part.part.taken ((all_reduced_steps g.F.ExactField.value g.F.ExactField.limit (costs_of c.args.objective) c.args.rows.now (map g.F.ExactField.value c.args.duals.now) 0 c.args.columns.now) ++ (row_bound_steps g.F.ExactField.value g.F.ExactField.limit c.args.above (whole (pos 0)) c.args.rows.now (map g.F.ExactField.value c.args.duals.now))) (columns_steps g.F.ExactField.value g.F.ExactField.limit c.args.above (reduced_costs g.F.ExactField.value (costs_of c.args.objective) c.args.rows.now (map g.F.ExactField.value c.args.duals.now)) (rows_sum g.F.ExactField.value c.args.above (whole (pos 0)) c.args.rows.now (map g.F.ExactField.value c.args.duals.now)) 0 c.args.columns.now) (columns_sum g.F.ExactField.value c.args.above (reduced_costs g.F.ExactField.value (costs_of c.args.objective) c.args.rows.now (map g.F.ExactField.value c.args.duals.now)) (rows_sum g.F.ExactField.value c.args.above (whole (pos 0)) c.args.rows.now (map g.F.ExactField.value c.args.duals.now)) 0 c.args.columns.now) c.columns_part.result
+    reaches_after g.F.ExactField.value 0 c.in_ok-part.part.taken ((all_reduced_steps g.F.ExactField.value g.F.ExactField.limit (costs_of c.args.objective) c.args.rows.now (map g.F.ExactField.value c.args.duals.now) 0 c.args.columns.now) ++ (row_bound_steps g.F.ExactField.value g.F.ExactField.limit c.args.above (whole (pos 0)) c.args.rows.now (map g.F.ExactField.value c.args.duals.now))) (columns_steps g.F.ExactField.value g.F.ExactField.limit c.args.above (reduced_costs g.F.ExactField.value (costs_of c.args.objective) c.args.rows.now (map g.F.ExactField.value c.args.duals.now)) (rows_sum g.F.ExactField.value c.args.above (whole (pos 0)) c.args.rows.now (map g.F.ExactField.value c.args.duals.now)) 0 c.args.columns.now) (columns_sum g.F.ExactField.value c.args.above (reduced_costs g.F.ExactField.value (costs_of c.args.objective) c.args.rows.now (map g.F.ExactField.value c.args.duals.now)) (rows_sum g.F.ExactField.value c.args.above (whole (pos 0)) c.args.rows.now (map g.F.ExactField.value c.args.duals.now)) 0 c.args.columns.now) c.columns_part.result
     (took_both 0 c.in_ok-taken.taken c.in_ok-part.part.taken (all_reduced_steps g.F.ExactField.value g.F.ExactField.limit (costs_of c.args.objective) c.args.rows.now (map g.F.ExactField.value c.args.duals.now) 0 c.args.columns.now) (row_bound_steps g.F.ExactField.value g.F.ExactField.limit c.args.above (whole (pos 0)) c.args.rows.now (map g.F.ExactField.value c.args.duals.now)) c.in_ok-taken.ensures took)
     (subst (λ n. Reaches g.F.ExactField.value c.in_ok-part.part.taken (columns_steps g.F.ExactField.value g.F.ExactField.limit c.args.above (reduced_costs g.F.ExactField.value (costs_of c.args.objective) c.args.rows.now (map g.F.ExactField.value c.args.duals.now)) n 0 c.args.columns.now) (columns_sum g.F.ExactField.value c.args.above (reduced_costs g.F.ExactField.value (costs_of c.args.objective) c.args.rows.now (map g.F.ExactField.value c.args.duals.now)) n 0 c.args.columns.now) c.columns_part.result) sum c.columns_part.ensures)

@@ -4,7 +4,7 @@ use Rattle.std.proofs.lemmas.Result.{err_from_is_err_and}
 use Rattle.lp_core.specs.Feasible.{bound_value}
 use Rattle.lp_check.specs.BoundSteps.{all_reduced_steps, reduced_cost_bound_steps, plus_steps, columns_steps, columns_sum}
 use Rattle.lp_check.specs.Partials.{costs_of, reduced_costs, reduced_sum, first_unfit}
-use Rattle.lp_check.proofs.Fits.{room_for, continues, stops, ends, first_fits, second_fits, fit_no_stop}
+use Rattle.lp_check.proofs.Fits.{bound_for, continues, stops, ends, first_fits, second_fits, fit_no_stop}
 use Rattle.lp_check.proofs.StepSequences.{all_reduced_from, columns_from, columns_sum_from}
 use Rattle.lp_check.proofs.columns.columns_part.Goals as goal
 
@@ -20,7 +20,7 @@ returns-in_err-reduced g c =
 pub plus-requires : goal.plus-requires
 plus-requires g c =
     let reduced : g.F.ExactField.value c.in_ok-reduced.reduced.sum ≡ reduced_costs g.F.ExactField.value (costs_of c.args.objective) c.args.rows.now (map g.F.ExactField.value c.args.duals.now) c.loop-j.j = c.in_ok-reduced.ensures.1 ∙ ap (λ n. reduced_sum g.F.ExactField.value c.loop-j.j n c.args.rows.now (map g.F.ExactField.value c.args.duals.now)) c.cost_of-sum.ensures in
-    room_for g.F.ExactField.value _ _ _ _ _ _ c.loop-j.invariant.going (plus_steps g.F.ExactField.limit (g.F.ExactField.value c.loop-j.partial.sum) (g.F.ExactField.value c.in_ok-reduced.reduced.sum) (bound_value g.F.ExactField.value c.column_bound-bound.result)) _
+    bound_for g.F.ExactField.value _ _ _ _ _ _ c.loop-j.invariant.going (plus_steps g.F.ExactField.limit (g.F.ExactField.value c.loop-j.partial.sum) (g.F.ExactField.value c.in_ok-reduced.reduced.sum) (bound_value g.F.ExactField.value c.column_bound-bound.result)) _
     (columns_from g.F.ExactField.value g.F.ExactField.limit c.args.columns.now c.loop-j.j c.index-columns-j.result c.loop-j-test.true c.index-columns-j.is c.args.above (reduced_costs g.F.ExactField.value (costs_of c.args.objective) c.args.rows.now (map g.F.ExactField.value c.args.duals.now)) (g.F.ExactField.value c.loop-j.partial.sum) _ (g.F.ExactField.value c.in_ok-reduced.reduced.sum) (bound_value g.F.ExactField.value c.column_bound-bound.result) reduced c.column_bound-bound.ensures refl)
 
 pub returns-in_err-partial : goal.returns-in_err-partial

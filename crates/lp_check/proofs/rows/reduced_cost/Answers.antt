@@ -6,7 +6,7 @@ use Rattle.std.proofs.lemmas.Result.{err_from_is_err_and}
 use Rattle.lp_core.specs.Feasible.{bound_value}
 use Rattle.lp_check.specs.BoundSteps.{reduced_cost_bound_steps, less_steps}
 use Rattle.lp_check.specs.Partials.{reduced_sum}
-use Rattle.lp_check.proofs.Fits.{room_for, continues, stops, ends}
+use Rattle.lp_check.proofs.Fits.{bound_for, continues, stops, ends}
 use Rattle.lp_check.proofs.StepSequences.{reduced_from, reduced_sum_from}
 use Rattle.lp_check.proofs.rows.reduced_cost.Goals as goal
 
@@ -16,7 +16,7 @@ entry_in-entry-requires g c =
 
 pub less-requires : goal.less-requires
 less-requires g c =
-    room_for g.F.ExactField.value _ _ _ _ _ _ c.loop-i.invariant (less_steps g.F.ExactField.limit (g.F.ExactField.value c.loop-i.partial.sum) (g.F.ExactField.value c.index-duals-i.result) (bound_value g.F.ExactField.value c.entry_in-entry.result)) _
+    bound_for g.F.ExactField.value _ _ _ _ _ _ c.loop-i.invariant (less_steps g.F.ExactField.limit (g.F.ExactField.value c.loop-i.partial.sum) (g.F.ExactField.value c.index-duals-i.result) (bound_value g.F.ExactField.value c.entry_in-entry.result)) _
     (reduced_from g.F.ExactField.value g.F.ExactField.limit c.args.rows.now c.args.duals.now c.loop-i.i c.index-rows-i.result c.index-duals-i.result c.loop-i-test.true c.index-rows-i.is (omega (arith, c.requires.sized)) c.index-duals-i.is c.args.column (g.F.ExactField.value c.loop-i.partial.sum) _ (bound_value g.F.ExactField.value c.entry_in-entry.result) c.entry_in-entry.ensures refl)
 
 pub loop-i-init : goal.loop-i-init

@@ -3,13 +3,13 @@ use Rattle.std.proofs.lemmas.List.{drop_all}
 use Rattle.std.proofs.lemmas.Result.{err_from_is_err_and}
 use Rattle.lp_core.specs.Feasible.{bound_value}
 use Rattle.lp_check.specs.BoundSteps.{row_bound_steps, rows_sum, plus_steps}
-use Rattle.lp_check.proofs.Fits.{room_for, continues, stops, ends}
+use Rattle.lp_check.proofs.Fits.{bound_for, continues, stops, ends}
 use Rattle.lp_check.proofs.StepSequences.{rows_from, rows_sum_from}
 use Rattle.lp_check.proofs.rows.rows_part.Goals as goal
 
 pub plus-requires : goal.plus-requires
 plus-requires g c =
-    room_for g.F.ExactField.value _ _ _ _ _ _ c.loop-i.invariant (plus_steps g.F.ExactField.limit (g.F.ExactField.value c.loop-i.partial.sum) (g.F.ExactField.value c.index-duals-i.result) (bound_value g.F.ExactField.value c.row_bound-bound.result)) _
+    bound_for g.F.ExactField.value _ _ _ _ _ _ c.loop-i.invariant (plus_steps g.F.ExactField.limit (g.F.ExactField.value c.loop-i.partial.sum) (g.F.ExactField.value c.index-duals-i.result) (bound_value g.F.ExactField.value c.row_bound-bound.result)) _
     (rows_from g.F.ExactField.value g.F.ExactField.limit c.args.rows.now c.args.duals.now c.loop-i.i c.index-rows-i.result c.index-duals-i.result c.loop-i-test.true c.index-rows-i.is (omega (arith, c.requires.sized)) c.index-duals-i.is c.args.above (g.F.ExactField.value c.loop-i.partial.sum) _ (bound_value g.F.ExactField.value c.row_bound-bound.result) c.row_bound-bound.ensures refl)
 
 pub loop-i-init : goal.loop-i-init

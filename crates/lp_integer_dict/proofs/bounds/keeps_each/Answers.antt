@@ -4,7 +4,7 @@ use Rattle.lp_integer_rows.specs.declared.line.Line.{Line}
 use Rattle.lp_integer_rows.specs.declared.line.Factors.{Factors}
 use Rattle.lp_integer_dict.specs.WithinBound.{zero_after}
 use Rattle.lp_integer_rows.proofs.Plans.{index_get, same_some, get_within}
-use Rattle.lp_integer_dict.proofs.RowsWithinBound.{none, at, plans_sized, room_more}
+use Rattle.lp_integer_dict.proofs.RowsWithinBound.{none, at, plans_sized, bound_more}
 use Rattle.lp_integer_dict.proofs.bounds.keeps_each.Goals as goal
 use Rattle.lp_integer_dict.proofs.bounds.keeps_each.Goals.{else-i-leaving-via-then-i-leaving+else-not-fits, else-i-leaving-via-else-i-leaving}
 
@@ -47,7 +47,7 @@ magnitude_after-zero-requires-clause-within_bound c = (at c.requires.lines.0 _ c
 pub loop-i-preserved : goal.loop-i-preserved
 loop-i-preserved c =
     let here = (at c.requires.lines.0 _ c.requires.planned.0 c.args.place c.args.lines.now c.args.plans.now c.index-lines-place.result c.requires.lines.1 c.requires.lines.2 (c.requires.planned.1 c.index-lines-place.result (index_get c.args.lines.now c.args.place c.index-lines-place.result c.index-lines-place.result c.requires.within.0 (sym c.index-lines-place.is))) (index_get c.args.lines.now c.args.place c.index-lines-place.result c.index-lines-place.result c.requires.within.0 (sym c.index-lines-place.is)) c.loop-i.i c.index-lines-i.result (slice_index_or c.args.plans.now c.loop-i.i none) (omega arith) c.index-lines-i.is refl) in
-    room_more c.loop-i.i c.args.leaving c.index-lines-place.result (slice_index_or c.args.plans.now c.args.leaving none) c.magnitude_after-u.result c.args.lines.now c.args.plans.now c.args.bound c.index-lines-i.result (slice_index_or c.args.plans.now c.loop-i.i none) c.loop-i.invariant here.there here.by
+    bound_more c.loop-i.i c.args.leaving c.index-lines-place.result (slice_index_or c.args.plans.now c.args.leaving none) c.magnitude_after-u.result c.args.lines.now c.args.plans.now c.args.bound c.index-lines-i.result (slice_index_or c.args.plans.now c.loop-i.i none) c.loop-i.invariant here.there here.by
     (elim c.else-i-leaving.branch [
       | else-i-leaving-via-then-i-leaving+else-not-fits w ↦ λ other. subst (λ z. (slice_index_or c.args.plans.now c.loop-i.i none).most * c.magnitude_after-u.result + z * (slice_index_or c.args.plans.now c.args.leaving none).most ≤ c.args.bound) c.magnitude_after-zero.ensures.value (w.fits.ensures.0 w.if-not-fits.false)
       | else-i-leaving-via-else-i-leaving w ↦ λ other. absurd (other w.if-i-leaving.false)

@@ -26,6 +26,6 @@ returns-clause-none c = λ told.
         of_leaving = b;
         factors = subst₂ (λ x y. AreFactors c.args.row.number c.args.leaving.number x y) (sym (to_z-of_z w128 c.reduced_pair-a.result.0 fits_a)) (sym (to_z-of_z w128 c.reduced_pair-a.result.1 fits_b))
             (subst₂ (λ x y. AreFactors x y c.reduced_pair-a.result.0 c.reduced_pair-a.result.1) f_is p_is c.reduced_pair-a.ensures);
-        no_room = found_past c.within_bound-2.result (nat_abs a * c.args.row.most + nat_abs b * c.args.leaving.most) c.args.bound c.within_bound-2.ensures (sym c.is_some-2.ensures ∙ told);
+        no_bound = found_past c.within_bound-2.result (nat_abs a * c.args.row.most + nat_abs b * c.args.leaving.most) c.args.bound c.within_bound-2.ensures (sym c.is_some-2.ensures ∙ told);
       };
     }

@@ -20,7 +20,7 @@ returns-in-None c =
     let factors : AreFactors (whole_at (wholes c.args.line.now) c.args.column) (whole_at (wholes c.args.pivot.now) c.args.column) a b =
     subst₂ (λ x y. AreFactors (whole_at (wholes c.args.line.now) c.args.column) (whole_at (wholes c.args.pivot.now) c.args.column) x y) (sym (to_z-of_z w128 c.reduced_pair-a.result.0 fits_a)) (sym (to_z-of_z w128 c.reduced_pair-a.result.1 fits_b))
     (subst₂ (λ x y. AreFactors x y c.reduced_pair-a.result.0 c.reduced_pair-a.result.1) f_is p_is c.reduced_pair-a.ensures) in
-    record { of_line = a; of_pivot = b; factors = factors; no_room = c.in-None.ensures }
+    record { of_line = a; of_pivot = b; factors = factors; no_bound = c.in-None.ensures }
 
 pub returns-in-Some : goal.returns-in-Some
 returns-in-Some c =

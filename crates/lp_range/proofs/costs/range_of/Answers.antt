@@ -8,7 +8,7 @@ use Rattle.lp_dict.specs.Tableau.{dictionary}
 use Rattle.lp_range.specs.Spans.{span_from}
 use Rattle.lp_range.specs.Ranges.{cost_gain}
 use Rattle.lp_range.proofs.CostBounds.{other_there}
-use Rattle.lp_range.proofs.Loops.{gain_goes, gain_stops, end_stops, walk_begins}
+use Rattle.lp_range.proofs.Loops.{gain_goes, gain_stops, end_stops, traversal_begins}
 use Rattle.lp_range.proofs.costs.range_of.Goals as goal
 
 pub gain_of-requires-clause-there : goal.gain_of-requires-clause-there
@@ -20,7 +20,7 @@ with_coefficient-requires g c = other_there g.F.ExactField.limit (dictionary g.F
 pub loop-other-init : goal.loop-other-init
 loop-other-init g c =
     let f = cost_gain g.F.ExactField.limit (dictionary g.F.ExactField.value c.args.dict.now) c.args.maximize (c.args.column.first.variable, shift_value g.F.ExactField.value c.args.column.shift) in
-    walk_begins g.F.ExactField.value g.F.ExactField.limit (g.F.ExactField.value c.args.cost) c.all_numbers-moves.result _ (map f c.args.others.now) c.all_numbers-moves.ensures.low c.all_numbers-moves.ensures.high (ap (map f) c.requires.others)
+    traversal_begins g.F.ExactField.value g.F.ExactField.limit (g.F.ExactField.value c.args.cost) c.all_numbers-moves.result _ (map f c.args.others.now) c.all_numbers-moves.ensures.low c.all_numbers-moves.ensures.high (ap (map f) c.requires.others)
 
 pub returns-in_default : goal.returns-in_default
 returns-in_default g c =

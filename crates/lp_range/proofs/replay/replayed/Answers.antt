@@ -3,7 +3,7 @@ use Rattle.std.proofs.Common.{◌≡◌, ◌+◌, arith}
 use Rattle.std.specs.Prelude.{slice_index_or}
 use Rattle.lp_core.specs.declared.answer.Pivot.{Pivot}
 use Rattle.lp_dict.specs.Tableau.{dictionary}
-use Rattle.lp_range.proofs.Loops.{pivot_is_due, leads_on, leads_end}
+use Rattle.lp_range.proofs.Loops.{pivot_is_required, leads_on, leads_end}
 use Rattle.lp_range.proofs.replay.replayed.Goals as goal
 
 pub after-requires : goal.after-requires
@@ -13,7 +13,7 @@ after-requires g c =
     let none : Pivot = record { enter = 0; leave = 0 } in
     let p = slice_index_or pivots i none in
     let next : i + 1 ≡ c.loop-pivot.dict.upcoming = omega (arith, c.loop-pivot.invariant.upcoming, c.loop-pivot-test.true) in
-    pivot_is_due g.F.ExactField.limit (i + 1) (dictionary g.F.ExactField.value c.loop-pivot.dict) pivots i p c.loop-pivot-test.true (get_or_itself pivots i none c.loop-pivot-test.true) c.requires.leads.0 (c.loop-pivot.invariant.same c.requires.leads.0 c.requires.leads.1) c.loop-pivot.dict.upcoming next
+    pivot_is_required g.F.ExactField.limit (i + 1) (dictionary g.F.ExactField.value c.loop-pivot.dict) pivots i p c.loop-pivot-test.true (get_or_itself pivots i none c.loop-pivot-test.true) c.requires.leads.0 (c.loop-pivot.invariant.same c.requires.leads.0 c.requires.leads.1) c.loop-pivot.dict.upcoming next
 
 pub loop-pivot-preserved : goal.loop-pivot-preserved
 loop-pivot-preserved g c =

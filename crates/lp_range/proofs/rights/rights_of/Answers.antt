@@ -6,14 +6,14 @@ use Rattle.lp_core.specs.Steps.{count_of_rows}
 use Rattle.lp_dict.specs.Tableau.{dictionary}
 use Rattle.lp_range.specs.declared.interval.Interval.{Interval}
 use Rattle.lp_range.specs.Ranges.{span_value, right_spans, rights}
-use Rattle.lp_range.proofs.Loops.{first_slack, slack_room}
+use Rattle.lp_range.proofs.Loops.{first_slack, slack_bound}
 use Rattle.lp_range.proofs.rights.rights_of.Goals as goal
 
 pub ranges_of-requires : goal.ranges_of-requires
 ranges_of-requires g c =
     let d = dictionary g.F.ExactField.value c.args.dict.now in
     let same = first_slack g.F.ExactField.value c.args.lp.now c.requires.well_formed d c.requires.of_form c.variables.result c.len.result c.variables.ensures c.len.ensures in
-    let within_bound = slack_room g.F.ExactField.value c.args.lp.now c.requires.well_formed d c.requires.of_form in
+    let within_bound = slack_bound g.F.ExactField.value c.args.lp.now c.requires.well_formed d c.requires.of_form in
     let rows = ap count_of_rows c.as_slice.ensures in
     omega (arith, same, within_bound, rows)
 

@@ -3,17 +3,17 @@ use Rattle.lp_core.specs.Dictionary.{Improves}
 use Rattle.lp_core.specs.Steps.{ratio_steps}
 use Rattle.lp_fraction_dict.specs.Pivots.{IsLimit}
 use Rattle.lp_dict.specs.Tableau.{dictionary}
-use Rattle.lp_simplex.proofs.PivotSteps.{opening_is_due, ratio_stops}
-use Rattle.lp_simplex.proofs.Steps.{due_by}
+use Rattle.lp_simplex.proofs.PivotSteps.{opening_is_required, ratio_stops}
+use Rattle.lp_simplex.proofs.Steps.{required_by}
 use Rattle.lp_simplex.proofs.pivoting.next_at.Goals as goal
 
 pub returns-in-Some-clause-legal : goal.returns-in-Some-clause-legal
 returns-in-Some-clause-legal g c =
-    opening_is_due (Improves (dictionary g.F.ExactField.value c.args.dict.now)) g.F.ExactField.limit c.args.dict.now.upcoming (dictionary g.F.ExactField.value c.args.dict.now) c.in-Some.pivot c.in-Some.ensures.0 c.in-Some.ensures.1
+    opening_is_required (Improves (dictionary g.F.ExactField.value c.args.dict.now)) g.F.ExactField.limit c.args.dict.now.upcoming (dictionary g.F.ExactField.value c.args.dict.now) c.in-Some.pivot c.in-Some.ensures.0 c.in-Some.ensures.1
 
 pub returns-in-Some-clause-chosen : goal.returns-in-Some-clause-chosen
 returns-in-Some-clause-chosen g c first pivots known =
-    opening_is_due (g.C.Choosing.chooses (g.C.Choosing.rule c.args.choice.now) first pivots (dictionary g.F.ExactField.value c.args.dict.now)) g.F.ExactField.limit c.args.dict.now.upcoming (dictionary g.F.ExactField.value c.args.dict.now) c.in-Some.pivot c.in-Some.ensures.0 c.in-Some.ensures.1
+    opening_is_required (g.C.Choosing.chooses (g.C.Choosing.rule c.args.choice.now) first pivots (dictionary g.F.ExactField.value c.args.dict.now)) g.F.ExactField.limit c.args.dict.now.upcoming (dictionary g.F.ExactField.value c.args.dict.now) c.in-Some.pivot c.in-Some.ensures.0 c.in-Some.ensures.1
 
 pub leaving-requires : goal.leaving-requires
 leaving-requires g c = c.in-Some-entering.ensures.0
@@ -21,11 +21,11 @@ leaving-requires g c = c.in-Some-entering.ensures.0
 pub returns-in-Ok-clause-legal : goal.returns-in-Ok-clause-legal
 returns-in-Ok-clause-legal g c =
     let improves = c.in-Some-entering.ensures.0 in
-    due_by g.F.ExactField.limit (Improves (dictionary g.F.ExactField.value c.args.dict.now)) c.args.dict.now.upcoming (dictionary g.F.ExactField.value c.args.dict.now) c.in-Some-entering.enter c.in-Ok.leave c.next_with.result c.in_default.ensures improves improves c.in-Ok.ensures.choice c.in-Ok.ensures.fits c.next_with.ensures
+    required_by g.F.ExactField.limit (Improves (dictionary g.F.ExactField.value c.args.dict.now)) c.args.dict.now.upcoming (dictionary g.F.ExactField.value c.args.dict.now) c.in-Some-entering.enter c.in-Ok.leave c.next_with.result c.in_default.ensures improves improves c.in-Ok.ensures.choice c.in-Ok.ensures.fits c.next_with.ensures
 
 pub returns-in-Ok-clause-chosen : goal.returns-in-Ok-clause-chosen
 returns-in-Ok-clause-chosen g c first pivots known =
-    due_by g.F.ExactField.limit (g.C.Choosing.chooses (g.C.Choosing.rule c.args.choice.now) first pivots (dictionary g.F.ExactField.value c.args.dict.now)) c.args.dict.now.upcoming (dictionary g.F.ExactField.value c.args.dict.now) c.in-Some-entering.enter c.in-Ok.leave c.next_with.result c.in_default.ensures c.in-Some-entering.ensures.0 (c.in-Some-entering.ensures.1 first pivots known) c.in-Ok.ensures.choice c.in-Ok.ensures.fits c.next_with.ensures
+    required_by g.F.ExactField.limit (g.C.Choosing.chooses (g.C.Choosing.rule c.args.choice.now) first pivots (dictionary g.F.ExactField.value c.args.dict.now)) c.args.dict.now.upcoming (dictionary g.F.ExactField.value c.args.dict.now) c.in-Some-entering.enter c.in-Ok.leave c.next_with.result c.in_default.ensures c.in-Some-entering.ensures.0 (c.in-Some-entering.ensures.1 first pivots known) c.in-Ok.ensures.choice c.in-Ok.ensures.fits c.next_with.ensures
 
 pub returns-in-Err-Limit-clause-legal : goal.returns-in-Err-Limit-clause-legal
 returns-in-Err-Limit-clause-legal g c =

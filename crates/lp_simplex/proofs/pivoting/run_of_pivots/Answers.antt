@@ -2,7 +2,7 @@ use Rattle.std.proofs.Common.{◌≡◌, ◌+◌, ◌<◌, ◌^◌, List, length
 use Rattle.lp_core.specs.declared.answer.Pivot.{Pivot}
 use Rattle.lp_dict.specs.Tableau.{dictionary}
 use Rattle.lp_simplex.specs.InnerStates.{IsSoFar, StepsTo, HaltsAtLimit}
-use Rattle.lp_simplex.proofs.Steps.{begins, count_more, continues, halts_early, halts_at_limit, walk_is}
+use Rattle.lp_simplex.proofs.Steps.{begins, count_more, continues, halts_early, halts_at_limit, pivot_run_is}
 use Rattle.lp_simplex.proofs.pivoting.run_of_pivots.Goals as goal
 
 pub loop-taken-init : goal.loop-taken-init
@@ -47,7 +47,7 @@ returns-in-Halted g c =
     let Known = g.C.Choosing.remembers c.stepped.new.choice first in
     let Choice = g.C.Choosing.chooses (g.C.Choosing.rule c.args.choice.now) in
     let Chosen = Choice first c.loop-taken.pivots.items (dictionary g.F.ExactField.value c.loop-taken.dict) in
-    walk_is g.F.ExactField.value g.F.ExactField.limit Choice (g.C.Choosing.remembers c.loop-taken.choice first) first c.args.iterlim (record { pivots = c.loop-taken.pivots; halt = c.in-Halted.halt }) c.loop-taken.dict (omega arith) so_far
+    pivot_run_is g.F.ExactField.value g.F.ExactField.limit Choice (g.C.Choosing.remembers c.loop-taken.choice first) first c.args.iterlim (record { pivots = c.loop-taken.pivots; halt = c.in-Halted.halt }) c.loop-taken.dict (omega arith) so_far
     (halts_early g.F.ExactField.value g.F.ExactField.limit Chosen Known c.loop-taken.pivots.items c.args.iterlim (length c.loop-taken.pivots.items) c.loop-taken.dict c.in-Halted.halt next (omega arith)
     (subst (λ o. StepsTo g.F.ExactField.limit g.F.ExactField.value Chosen Known c.loop-taken.pivots.items c.loop-taken.dict o) c.in-Halted.is (subst (λ rule. StepsTo g.F.ExactField.limit g.F.ExactField.value (g.C.Choosing.chooses rule first c.loop-taken.pivots.items (dictionary g.F.ExactField.value c.loop-taken.dict)) Known c.loop-taken.pivots.items c.loop-taken.dict c.in_ok-pivot.field-0) c.loop-taken.invariant.rule (c.in_ok-pivot.ensures.steps first c.loop-taken.pivots.items so_far.known))))
 
@@ -59,5 +59,5 @@ returns g c =
     let most : length c.loop-taken.pivots.items ≡ c.args.iterlim = omega arith in
     let Choice = g.C.Choosing.chooses (g.C.Choosing.rule c.args.choice.now) in
     let Chosen = Choice first c.loop-taken.pivots.items (dictionary g.F.ExactField.value c.loop-taken.dict) in
-    walk_is g.F.ExactField.value g.F.ExactField.limit Choice (g.C.Choosing.remembers c.loop-taken.choice first) first c.args.iterlim (record { pivots = c.loop-taken.pivots; halt = c.halted-halt.result }) c.loop-taken.dict (omega arith) so_far
+    pivot_run_is g.F.ExactField.value g.F.ExactField.limit Choice (g.C.Choosing.remembers c.loop-taken.choice first) first c.args.iterlim (record { pivots = c.loop-taken.pivots; halt = c.halted-halt.result }) c.loop-taken.dict (omega arith) so_far
     (halts_at_limit g.F.ExactField.value g.F.ExactField.limit Chosen (g.C.Choosing.remembers c.loop-taken.choice first) c.loop-taken.pivots.items c.args.iterlim (length c.loop-taken.pivots.items) c.loop-taken.dict c.halted-halt.result most (subst (λ rule. HaltsAtLimit g.F.ExactField.limit g.F.ExactField.value (g.C.Choosing.chooses rule first c.loop-taken.pivots.items (dictionary g.F.ExactField.value c.loop-taken.dict)) c.loop-taken.dict c.halted-halt.result) c.loop-taken.invariant.rule (c.halted-halt.ensures first c.loop-taken.pivots.items so_far.known)))

@@ -5,7 +5,7 @@ use Rattle.lp_core.specs.declared.program.Row.{Row}
 use Rattle.lp_core.specs.Steps.{count_of_rows}
 use Rattle.lp_core.proofs.Points.{entries_within}
 use Rattle.lp_std.proofs.Shapes.{rows_few, columns_few, placed_sized, placed_low}
-use Rattle.lp_std.proofs.Formed.{rows_stopped, room_left, bounds_stopped, all_made}
+use Rattle.lp_std.proofs.Formed.{rows_stopped, bound_left, bounds_stopped, all_made}
 use Rattle.lp_std.proofs.form.all_rows.Goals as goal
 
 pub rows_of-requires-clause-within_bound : goal.rows_of-requires-clause-within_bound
@@ -30,7 +30,7 @@ returns-in_err-made-clause-err g c =
 
 pub with_bound_rows-requires-clause-within_bound : goal.with_bound_rows-requires-clause-within_bound
 with_bound_rows-requires-clause-within_bound g c =
-    room_left g.F.ExactField.value g.F.ExactField.limit c.args.lp.now c.args.columns.now c.requires.numbered c.as_slice.result.now c.as_slice.ensures c.in_ok-made.made.items c.in_ok-made.ensures.ok.0 c.in_ok-made.ensures.ok.1 c.in_ok-made.ensures.ok.2 c.as_slice-2.result.now c.as_slice-2.ensures c.requires.well_formed
+    bound_left g.F.ExactField.value g.F.ExactField.limit c.args.lp.now c.args.columns.now c.requires.numbered c.as_slice.result.now c.as_slice.ensures c.in_ok-made.made.items c.in_ok-made.ensures.ok.0 c.in_ok-made.ensures.ok.1 c.in_ok-made.ensures.ok.2 c.as_slice-2.result.now c.as_slice-2.ensures c.requires.well_formed
 
 pub with_bound_rows-requires-clause-few : goal.with_bound_rows-requires-clause-few
 with_bound_rows-requires-clause-few g c =

@@ -9,7 +9,7 @@ use Rattle.lp_core.specs.declared.program.Row.{Row}
 use Rattle.lp_core.specs.Sums.{row_sum}
 use Rattle.lp_core.specs.Steps.{row_level_steps}
 use Rattle.lp_std.specs.InnerSteps.{first_stop}
-use Rattle.lp_std.proofs.EntryLists.{walk_goes, walk_stops, walk_ends, made_more, made_all}
+use Rattle.lp_std.proofs.EntryLists.{traversal_goes, traversal_stops, traversal_ends, made_more, made_all}
 use Rattle.lp_std.proofs.levels.row_levels_of.Goals as goal
 
 pub row_level_of-requires-clause-there : goal.row_level_of-requires-clause-there
@@ -30,17 +30,17 @@ loop-i-init g c =
 pub loop-i-preserved : goal.loop-i-preserved
 loop-i-preserved g c =
     record {
-      steps = c.loop-i.invariant.steps ∙ walk_goes (λ (row : Row _). row) (λ (p : ℕ × Row _). row_level_steps g.F.ExactField.value g.F.ExactField.limit p.0 0 (whole (pos 0)) p.1.entries (map g.F.ExactField.value c.args.levels.now)) c.args.rows.now c.loop-i.i c.index-rows-i.result (omega arith) c.index-rows-i.is (ap (λ entries. first_stop (row_level_steps g.F.ExactField.value g.F.ExactField.limit c.loop-i.i 0 (whole (pos 0)) entries (map g.F.ExactField.value c.args.levels.now))) (sym c.as_slice.ensures) ∙ c.in_ok-sum.ensures.0);
+      steps = c.loop-i.invariant.steps ∙ traversal_goes (λ (row : Row _). row) (λ (p : ℕ × Row _). row_level_steps g.F.ExactField.value g.F.ExactField.limit p.0 0 (whole (pos 0)) p.1.entries (map g.F.ExactField.value c.args.levels.now)) c.args.rows.now c.loop-i.i c.index-rows-i.result (omega arith) c.index-rows-i.is (ap (λ entries. first_stop (row_level_steps g.F.ExactField.value g.F.ExactField.limit c.loop-i.i 0 (whole (pos 0)) entries (map g.F.ExactField.value c.args.levels.now))) (sym c.as_slice.ensures) ∙ c.in_ok-sum.ensures.0);
       made = rw c.in_ok-push.ensures.items (made_more g.F.ExactField.value (λ (row : Row _). row_sum g.F.ExactField.value row.entries (map g.F.ExactField.value c.args.levels.now)) c.args.rows.now c.loop-i.i c.index-rows-i.result c.loop-i.sums.items c.in_ok-sum.sum (omega arith) c.index-rows-i.is c.loop-i.invariant.made (c.in_ok-sum.ensures.1 ∙ ap (λ entries. row_sum g.F.ExactField.value entries (map g.F.ExactField.value c.args.levels.now)) c.as_slice.ensures));
     }
 
 pub returns-in_err-sum : goal.returns-in_err-sum
 returns-in_err-sum g c =
     let p = err_from_is_err_and c.from_residual.result c.from_residual.ensures.1 in
-    rw (p.1, p.2) (c.loop-i.invariant.steps ∙ walk_stops (λ (row : Row _). row) (λ (p : ℕ × Row _). row_level_steps g.F.ExactField.value g.F.ExactField.limit p.0 0 (whole (pos 0)) p.1.entries (map g.F.ExactField.value c.args.levels.now)) c.args.rows.now c.loop-i.i c.index-rows-i.result (omega arith) c.index-rows-i.is c.in_err-sum.field-0.0 (ap (λ entries. first_stop (row_level_steps g.F.ExactField.value g.F.ExactField.limit c.loop-i.i 0 (whole (pos 0)) entries (map g.F.ExactField.value c.args.levels.now))) (sym c.as_slice.ensures) ∙ c.in_err-sum.ensures))
+    rw (p.1, p.2) (c.loop-i.invariant.steps ∙ traversal_stops (λ (row : Row _). row) (λ (p : ℕ × Row _). row_level_steps g.F.ExactField.value g.F.ExactField.limit p.0 0 (whole (pos 0)) p.1.entries (map g.F.ExactField.value c.args.levels.now)) c.args.rows.now c.loop-i.i c.index-rows-i.result (omega arith) c.index-rows-i.is c.in_err-sum.field-0.0 (ap (λ entries. first_stop (row_level_steps g.F.ExactField.value g.F.ExactField.limit c.loop-i.i 0 (whole (pos 0)) entries (map g.F.ExactField.value c.args.levels.now))) (sym c.as_slice.ensures) ∙ c.in_err-sum.ensures))
 
 pub returns : goal.returns
 returns g c = (
-  c.loop-i.invariant.steps ∙ walk_ends (λ (row : Row _). row) (λ (p : ℕ × Row _). row_level_steps g.F.ExactField.value g.F.ExactField.limit p.0 0 (whole (pos 0)) p.1.entries (map g.F.ExactField.value c.args.levels.now)) c.args.rows.now c.loop-i.i (omega arith),
+  c.loop-i.invariant.steps ∙ traversal_ends (λ (row : Row _). row) (λ (p : ℕ × Row _). row_level_steps g.F.ExactField.value g.F.ExactField.limit p.0 0 (whole (pos 0)) p.1.entries (map g.F.ExactField.value c.args.levels.now)) c.args.rows.now c.loop-i.i (omega arith),
   made_all g.F.ExactField.value (λ (row : Row _). row_sum g.F.ExactField.value row.entries (map g.F.ExactField.value c.args.levels.now)) c.args.rows.now c.loop-i.i c.loop-i.sums.items (omega arith) c.loop-i.invariant.made,
 )

@@ -20,13 +20,13 @@ returns g c =
     let other_set = is_set_name state second.name in
     let first_new : c.is_unknown-first_new.result ≡ new = c.is_unknown-first_new.ensures in
     let second_new : c.is_unknown-second_new.result ≡ other = c.is_unknown-second_new.ensures in
-    let first_stands : c.if-first_new.first_stands ≡ (new || set) = elim c.if-first_new.branch [
-      | then-first_new w ↦ or-true _ _ _ (w.first_stands-is ∙ first_new) (sym first_new ∙ w.if-first_new.true)
-      | else-first_new w ↦ or-right _ _ _ (w.first_stands-is ∙ w.is_set-first_stands.ensures) (sym first_new ∙ w.if-first_new.false)
+    let first_occurs : c.if-first_new.first_occurs ≡ (new || set) = elim c.if-first_new.branch [
+      | then-first_new w ↦ or-true _ _ _ (w.first_occurs-is ∙ first_new) (sym first_new ∙ w.if-first_new.true)
+      | else-first_new w ↦ or-right _ _ _ (w.first_occurs-is ∙ w.is_set-first_occurs.ensures) (sym first_new ∙ w.if-first_new.false)
     ] in
-    let second_stands : c.if-second_new.second_stands ≡ (other || other_set) = elim c.if-second_new.branch [
-      | then-second_new w ↦ or-true _ _ _ (w.second_stands-is ∙ second_new) (sym second_new ∙ w.if-second_new.true)
-      | else-second_new w ↦ or-right _ _ _ (w.second_stands-is ∙ w.is_set-second_stands.ensures) (sym second_new ∙ w.if-second_new.false)
+    let second_occurs : c.if-second_new.second_occurs ≡ (other || other_set) = elim c.if-second_new.branch [
+      | then-second_new w ↦ or-true _ _ _ (w.second_occurs-is ∙ second_new) (sym second_new ∙ w.if-second_new.true)
+      | else-second_new w ↦ or-right _ _ _ (w.second_occurs-is ∙ w.is_set-second_occurs.ensures) (sym second_new ∙ w.if-second_new.false)
     ] in
     let one_known : c.if-not-first_new.require ≡ (not new || not other) = elim c.if-not-first_new.branch [
       | then-not-first_new w ↦ or-true _ _ _ (w.require-is ∙ ap not first_new) (ap not (sym first_new ∙ w.if-not-first_new.true))
@@ -41,10 +41,10 @@ returns g c =
     let t = faulted s first.at faults in
     let after : seen c.require-2.new.self ≡ t = chain-2 first.at s _ _ _ _
     (c.require.ensures ∙ ap (λ b. faulted s first.at ((b, UnknownName) ∷ [])) (ap not one_known ∙ not-either new other))
-    (c.require-2.ensures ∙ ap (λ b. faulted (seen c.require.new.self) first.at ((b, WrongKind) ∷ [])) (ap not first_stands ∙ not-or new set)) in
+    (c.require-2.ensures ∙ ap (λ b. faulted (seen c.require.new.self) first.at ((b, WrongKind) ∷ [])) (ap not first_occurs ∙ not-or new set)) in
     noted-then value s t _ ((first.at, first_alias first.name second.name) ∷ []) ((second.at, second_alias first.name second.name) ∷ [])
     (noted-by value s t first.at (first_alias first.name second.name) faults refl refl)
     (noted-by value t _ second.at (second_alias first.name second.name) more refl
     (chain-2 second.at t _ _ _ _
     (c.require-3.ensures ∙ ap (λ (u : Checking). faulted u second.at ((not c.if-first_new-2.require, Redeclared) ∷ [])) after ∙ ap (λ b. faulted t second.at ((b, Redeclared) ∷ [])) (ap not one_new ∙ not-or new other))
-    (c.require-4.ensures ∙ ap (λ b. faulted (seen c.require-3.new.self) second.at ((b, WrongKind) ∷ [])) (ap not second_stands ∙ not-or other other_set))))
+    (c.require-4.ensures ∙ ap (λ b. faulted (seen c.require-3.new.self) second.at ((b, WrongKind) ∷ [])) (ap not second_occurs ∙ not-or other other_set))))

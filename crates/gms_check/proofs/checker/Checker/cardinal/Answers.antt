@@ -14,9 +14,9 @@ returns-clause-noted g c =
     let set = is_set_name facts.state c.args.set in
     let unknown = has_no_declaration facts.state c.args.set in
     let wrong = not c.args.context.numbers || not set in
-    let stands : c.if-context.stands ≡ (c.args.context.numbers && set) = elim c.if-context.branch [
-      | then-context w ↦ and-true c.args.context.numbers set _ _ w.stands-is w.is_set-stands.ensures w.if-context.true
-      | else-context w ↦ and-false c.args.context.numbers set _ w.stands-is w.if-context.false
+    let occurs : c.if-context.occurs ≡ (c.args.context.numbers && set) = elim c.if-context.branch [
+      | then-context w ↦ and-true c.args.context.numbers set _ _ w.occurs-is w.is_set-occurs.ensures w.if-context.true
+      | else-context w ↦ and-false c.args.context.numbers set _ w.occurs-is w.if-context.false
     ] in
     noted-by g.F.ExactField.value s _ c.args.at (cardinal c.args.context c.args.set) ((unknown, UnknownName) ∷ (wrong, WrongKind) ∷ []) (alone c.args.at unknown UnknownName ((wrong, WrongKind) ∷ []))
-    (chain-2 c.args.at s _ _ _ _ c.require_known.ensures (c.require.ensures ∙ ap (λ b. faulted (seen c.require_known.new.self) c.args.at ((b, WrongKind) ∷ [])) (ap not stands ∙ not-and c.args.context.numbers set)))
+    (chain-2 c.args.at s _ _ _ _ c.require_known.ensures (c.require.ensures ∙ ap (λ b. faulted (seen c.require_known.new.self) c.args.at ((b, WrongKind) ∷ [])) (ap not occurs ∙ not-and c.args.context.numbers set)))

@@ -17,9 +17,9 @@ returns g c =
     let at = c.args.equation.at in
     let name = c.args.equation.name in
     let xs = index_list c.args.indices.now in
-    let stands : c.is_equation-stands.result ≡ is_equation (declared_kind facts.state name) = c.is_equation-stands.ensures ∙ ap is_equation c.kind.ensures in
+    let occurs : c.is_equation-occurs.result ≡ is_equation (declared_kind facts.state name) = c.is_equation-occurs.ensures ∙ ap is_equation c.kind.ensures in
     let faults = index_faults (known_of value s) name (is_equation (declared_kind facts.state name)) xs in
     noted-by value s _ at (defining name xs) (faults ++ (marked facts.defined name, DefinedTwice) ∷ []) refl
     (faulted-then at s _ _ faults ((marked facts.defined name, DefinedTwice) ∷ [])
-    (c.in_ok-named.ensures ∙ ap (λ b. faulted s at (index_faults (known_of value s) name b xs)) stands)
+    (c.in_ok-named.ensures ∙ ap (λ b. faulted s at (index_faults (known_of value s) name b xs)) occurs)
     (c.require.ensures ∙ ap (λ b. faulted (seen c.named.new.self) at ((b, DefinedTwice) ∷ [])) (not-not c.is_defined-defined.result ∙ c.is_defined-defined.ensures)))

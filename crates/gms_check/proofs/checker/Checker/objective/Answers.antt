@@ -31,5 +31,5 @@ returns g c =
     ] in
     noted-by g.F.ExactField.value s _ at (optimizing c.args.objective.name) ((unknown, UnknownName) ∷ (wrong, WrongKind) ∷ (not (open_type && bare), Objective) ∷ []) (alone at unknown UnknownName ((wrong, WrongKind) ∷ (not (open_type && bare), Objective) ∷ []))
     (chain-3 at s _ _ _ _ _ _ c.require_known.ensures
-    (c.require.ensures ∙ ap (λ b. faulted (seen c.require_known.new.self) at ((not b, WrongKind) ∷ [])) (c.is_variable-stands.ensures ∙ ap is_variable_kind c.kind.ensures))
+    (c.require.ensures ∙ ap (λ b. faulted (seen c.require_known.new.self) at ((not b, WrongKind) ∷ [])) (c.is_variable-occurs.ensures ∙ ap is_variable_kind c.kind.ensures))
     (c.require-2.ensures ∙ ap (λ b. faulted (seen c.require.new.self) at ((not b, Objective) ∷ [])) free))

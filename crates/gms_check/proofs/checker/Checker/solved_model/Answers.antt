@@ -17,5 +17,5 @@ returns g c =
     let missing = has_undefined facts c.args.model.name in
     noted-by g.F.ExactField.value s _ at (solving c.args.model.name) ((unknown, UnknownName) ∷ (wrong, WrongKind) ∷ (missing, NotDefined) ∷ []) (alone at unknown UnknownName ((wrong, WrongKind) ∷ (missing, NotDefined) ∷ []))
     (chain-3 at s _ _ _ _ _ _ (c.require_known.ensures ∙ ap (λ (facts : Facts). faulted (record s { facts = facts }) at ((has_no_declaration facts.state c.args.model.name, UnknownName) ∷ [])) c.all_defined-defined.ensures.unchanged)
-    (c.require.ensures ∙ ap (λ b. faulted (seen c.require_known.new.self) at ((not b, WrongKind) ∷ [])) (c.is_model-stands.ensures ∙ ap is_model c.kind.ensures))
+    (c.require.ensures ∙ ap (λ b. faulted (seen c.require_known.new.self) at ((not b, WrongKind) ∷ [])) (c.is_model-occurs.ensures ∙ ap is_model c.kind.ensures))
     (c.require-2.ensures ∙ ap (λ b. faulted (seen c.require.new.self) at ((b, NotDefined) ∷ [])) (ap not c.all_defined-defined.ensures.answer ∙ not-not missing)))

@@ -15,6 +15,6 @@ returns g c =
     let facts = c.args.self.now.known in
     let s = seen c.args.self.now in
     let target = c.args.target.now in
-    let stands : c.may_be_assigned-stands.result ≡ may_be_assigned (declared_kind facts.state target.name) target.suffix = c.may_be_assigned-stands.ensures ∙ ap (λ kind. may_be_assigned kind target.suffix) c.kind-kind.ensures in
+    let occurs : c.may_be_assigned-occurs.result ≡ may_be_assigned (declared_kind facts.state target.name) target.suffix = c.may_be_assigned-occurs.ensures ∙ ap (λ kind. may_be_assigned kind target.suffix) c.kind-kind.ensures in
     noted-by value s _ target.at (assigning target.name target.suffix (index_list target.indices)) (index_faults (known_of value s) target.name (may_be_assigned (declared_kind facts.state target.name) target.suffix) (index_list target.indices)) refl
-    (c.in_ok-named.ensures ∙ ap (λ b. faulted s target.at (index_faults (known_of value s) target.name b (index_list c.as_slice.result.now))) stands ∙ ap (λ (indices : List (Index _)). faulted s target.at (index_faults (known_of value s) target.name (may_be_assigned (declared_kind facts.state target.name) target.suffix) (index_list indices))) c.as_slice.ensures)
+    (c.in_ok-named.ensures ∙ ap (λ b. faulted s target.at (index_faults (known_of value s) target.name b (index_list c.as_slice.result.now))) occurs ∙ ap (λ (indices : List (Index _)). faulted s target.at (index_faults (known_of value s) target.name (may_be_assigned (declared_kind facts.state target.name) target.suffix) (index_list indices))) c.as_slice.ensures)

@@ -4,7 +4,7 @@ use Rattle.gms_ast.specs.Trees.{plain, guarded}
 use Rattle.gms_expressions.specs.InnerNodes.{view}
 use Rattle.gms_expressions.specs.ExpressionTrees.{condition}
 use Rattle.gms_expressions.proofs.Parts.{in_node}
-use Rattle.gms_expressions.proofs.Signs.{handed_on, got_the, got_behind}
+use Rattle.gms_expressions.proofs.Signs.{handed_on, got_the, got_after}
 use Rattle.gms_expressions.proofs.Steps.{refuses_the, refuses_first, refuses_second, refuses_memory}
 use Rattle.gms_expressions.proofs.Nexts.{gives_next, led_next, falls}
 use Rattle.gms_expressions.proofs.Made.{views_push, numbers_in_parts}
@@ -41,7 +41,7 @@ pub loop-following-smaller : goal.loop-following-smaller
 loop-following-smaller g c = falls c.in-Some.ensures _ c.in_ok-guard.ensures.further
 
 pub loop-following-preserved : goal.loop-following-preserved
-loop-following-preserved g c = (guards_on c.loop-following.invariant.0 (led_next c.in-Some.ensures) (got_the Condition (got_behind {whole = in_node condition} c.in-Some.ensures refl c.in_ok-guard.ensures (λ sense. refl)) (λ sense. refl)) _ (views_push (λ e. (plain, view g.F.ExactField.value e)) _ _ c.in_ok-push.ensures.items), λ none. absurd (not_begun c.loop-following.guards.items _ (sym c.in_ok-push.ensures.items ∙ none)))
+loop-following-preserved g c = (guards_on c.loop-following.invariant.0 (led_next c.in-Some.ensures) (got_the Condition (got_after {whole = in_node condition} c.in-Some.ensures refl c.in_ok-guard.ensures (λ sense. refl)) (λ sense. refl)) _ (views_push (λ e. (plain, view g.F.ExactField.value e)) _ _ c.in_ok-push.ensures.items), λ none. absurd (not_begun c.loop-following.guards.items _ (sym c.in_ok-push.ensures.items ∙ none)))
 
 pub returns : goal.returns
 returns g c = guards_got c.loop-following.invariant.0 c.in_default.ensures (some_begun (λ e. (plain, view g.F.ExactField.value e)) c.loop-following.guards.items c.loop-following.invariant.1 c.in_default.ensures)

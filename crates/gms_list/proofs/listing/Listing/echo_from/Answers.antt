@@ -3,7 +3,7 @@ use Rattle.gms_lines.specs.Lines.{lines, content}
 use Rattle.gms_list.specs.ListingText.{numbered_line, numbered_from}
 use Rattle.std.proofs.lemmas.Bool.Decides.{nat_tests}
 use Rattle.gms_list.proofs.Echoes.{next_line, no_lines}
-use Rattle.gms_list.proofs.AppendedPieces.{Walked, traversal, step, broke, all, rest_is}
+use Rattle.gms_list.proofs.AppendedPieces.{Traversed, traversal, step, broke, all, rest_is}
 use Rattle.gms_list.proofs.listing.Listing.echo_from.Goals as goal
 
 pub loop-number-init : goal.loop-number-init

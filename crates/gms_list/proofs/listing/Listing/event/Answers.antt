@@ -34,7 +34,7 @@ push_solve-requires c =
     let found : slice_get c.args.answers.now c.in-Solve.answer ≡ Some c.in-Some.answer.now = slice_get_read c.args.answers.now (length c.args.answers.now) c.in-Solve.answer c.in-Some.answer.now refl there c.in-Some.ensures.lookup.1 in
     record {
       formed = listable.formed;
-      proved = at-some (λ (a : Answer Frac). HasProof frac_value c.in-Solve.lp a.end) (slice_get c.args.answers.now c.in-Solve.answer) c.in-Some.answer.now found listable.stands;
+      proved = at-some (λ (a : Answer Frac). HasProof frac_value c.in-Solve.lp a.end) (slice_get c.args.answers.now c.in-Solve.answer) c.in-Some.answer.now found listable.occurs;
     }
 
 pub returns-in-Display : goal.returns-in-Display

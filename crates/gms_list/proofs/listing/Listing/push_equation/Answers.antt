@@ -18,6 +18,6 @@ returns-in_err-push_rows g c =
 
 pub returns : goal.returns
 returns g c =
-    last _ _ c.push_behind_rows.result (step _ _ (step _ _ (traversal _ (headed (codes "EQUATION ") _ _ _
+    last _ _ c.push_after_rows.result (step _ _ (step _ _ (traversal _ (headed (codes "EQUATION ") _ _ _
     ∙ ap (λ n. line_of (codes "EQUATION " ++ label_in_table c.args.p.now.names c.args.equation) ++ flat_map (row_text c.args.p.now.names c.args.p.now.labels g.F.ExactField.limit (lp_numbers g.F.ExactField.value c.args.lp.now)) (take c.args.most (rows_of_equation c.args.p.now.names c.args.p.now.labels g.F.ExactField.limit (lp_numbers g.F.ExactField.value c.args.lp.now) c.args.equation)) ++ (if n == 0 then line_of (codes " (no rows)") else more_text c.args.most n (codes "rows")))
-    (rows_counted c.args.p.now.names c.args.p.now.labels g.F.ExactField.limit g.F.ExactField.value c.args.lp.now c.args.equation _ _ c.as_slice.ensures c.rows_of.ensures))) c.in_ok-push_head.ensures) c.in_ok-push_rows.ensures) c.push_behind_rows.ensures
+    (rows_counted c.args.p.now.names c.args.p.now.labels g.F.ExactField.limit g.F.ExactField.value c.args.lp.now c.args.equation _ _ c.as_slice.ensures c.rows_of.ensures))) c.in_ok-push_head.ensures) c.in_ok-push_rows.ensures) c.push_after_rows.ensures

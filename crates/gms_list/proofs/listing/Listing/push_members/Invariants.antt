@@ -1,9 +1,9 @@
 use Rattle.std.proofs.Common.{◌≡◌, flat_map, map, drop}
-use Rattle.gms_list.proofs.AppendedPieces.{Walked}
+use Rattle.gms_list.proofs.AppendedPieces.{Traversed}
 use Rattle.gq_extended.specs.Meaning.{extended}
 use Rattle.gms_list.specs.ListingText.{member_text}
 use Rattle.gms_list.proofs.listing.Listing.push_members.Given as goal
 
 abbrev pub invariant-loop-t : goal.invariant-loop-t
 invariant-loop-t g l =
-    Walked l.fn.self (flat_map (member_text l.labels) (map (λ entry. (entry.0, extended g.F.ExactField.value entry.1)) l.entries)) l.self (flat_map (member_text l.labels) (map (λ entry. (entry.0, extended g.F.ExactField.value entry.1)) (drop l.t-index l.entries)))
+    Traversed l.fn.self (flat_map (member_text l.labels) (map (λ entry. (entry.0, extended g.F.ExactField.value entry.1)) l.entries)) l.self (flat_map (member_text l.labels) (map (λ entry. (entry.0, extended g.F.ExactField.value entry.1)) (drop l.t-index l.entries)))

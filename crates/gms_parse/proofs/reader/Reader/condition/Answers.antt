@@ -1,7 +1,7 @@
 use Rattle.std.proofs.Common.{refl}
 use Rattle.gms_grammar.specs.declared.terminal.Terminal.TheVariants.{Dollar}
 use Rattle.gms_expressions.proofs.Signs.{handed_on}
-use Rattle.gms_parse.proofs.Ends.{behind_within}
+use Rattle.gms_parse.proofs.Ends.{after_within}
 use Rattle.gms_parse.proofs.Conditions.{condition_none, condition_got, condition_refused, dollar_starts, dollar_tableless}
 use Rattle.gms_parse.proofs.reader.Reader.condition.Goals as goal
 
@@ -9,7 +9,7 @@ pub returns-in_default : goal.returns-in_default
 returns-in_default g c read_state s other = condition_none g.F.ExactField.value s c.in_default.ensures
 
 pub guard-requires-clause-within : goal.guard-requires-clause-within
-guard-requires-clause-within g c = behind_within Dollar c.requires c.in-Some.ensures refl
+guard-requires-clause-within g c = after_within Dollar c.requires c.in-Some.ensures refl
 
 pub returns-in_err-operand : goal.returns-in_err-operand
 returns-in_err-operand g c read_state s other =

@@ -39,4 +39,4 @@ loop-following-preserved g c read_state s other =
     (c.in_ok-item.ensures _ (further_starts c.args.self.now _ _ c.in-Some.ensures l.stays.has (optionless_on l.stays.keyword s.optionless)) (tableless_on k.keyword other)) _ c.in_ok-push-2.ensures.items
 
 pub returns : goal.returns
-returns g c read_state s other = rw c.new.ensures (items_got (λ sense tree x k. k) (form_items c.args.form) (c.loop-following.invariant read_state s other) c.in_default.ensures (c.behind_last_item.ensures c.in_default.ensures))
+returns g c read_state s other = rw c.new.ensures (items_got (λ sense tree x k. k) (form_items c.args.form) (c.loop-following.invariant read_state s other) c.in_default.ensures (c.after_last_item.ensures c.in_default.ensures))

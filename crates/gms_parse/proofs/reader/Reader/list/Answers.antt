@@ -26,30 +26,30 @@ pub returns-in_err-item : goal.returns-in_err-item
 returns-in_err-item g c read_state h other =
     let s = slash_stays h c.in-Some.ensures in
     let l = c.loop-following.invariant _ s.has refl (tableless_on s.keyword other) in
-    let t = separated_stays l c.in-Some-behind_separator.ensures.next refl in
+    let t = separated_stays l c.in-Some-after_separator.ensures.next refl in
     handed_on _ _ c.from_residual-in_err-item.result _ c.from_residual-in_err-item.ensures.1
-    (list_refused c.args.list h c.in-Some.ensures (listing_refuses l c.in-Some-behind_separator.ensures.next refl (c.in_err-item.ensures _ t.has (separated_starless l c.in-Some-behind_separator.ensures.next refl) (tableless_on t.keyword (tableless_on s.keyword other)))))
+    (list_refused c.args.list h c.in-Some.ensures (listing_refuses l c.in-Some-after_separator.ensures.next refl (c.in_err-item.ensures _ t.has (separated_starless l c.in-Some-after_separator.ensures.next refl) (tableless_on t.keyword (tableless_on s.keyword other)))))
 
 pub returns-in_err-push-2 : goal.returns-in_err-push-2
 returns-in_err-push-2 g c read_state h other = handed_on _ _ c.from_residual-in_err-push-2.result _ c.from_residual-in_err-push-2.ensures.1 (refuses_memory refl)
 
 pub loop-following-smaller : goal.loop-following-smaller
-loop-following-smaller g c = let s = starts_somewhere c.args.self.now c.loop-following.tables in falls c.in-Some-behind_separator.ensures.next _ (c.in_ok-item.ensures _ s.has refl refl).further
+loop-following-smaller g c = let s = starts_somewhere c.args.self.now c.loop-following.tables in falls c.in-Some-after_separator.ensures.next _ (c.in_ok-item.ensures _ s.has refl refl).further
 
 pub loop-following-preserved : goal.loop-following-preserved
 loop-following-preserved g c read_state h clean other =
     let l = c.loop-following.invariant read_state h clean other in
-    let t = separated_stays l c.in-Some-behind_separator.ensures.next refl in
-    listing_on l c.in-Some-behind_separator.ensures.next refl (c.in_ok-item.ensures _ t.has (separated_starless l c.in-Some-behind_separator.ensures.next refl) (tableless_on t.keyword other)) _ c.in_ok-push-2.ensures.items
+    let t = separated_stays l c.in-Some-after_separator.ensures.next refl in
+    listing_on l c.in-Some-after_separator.ensures.next refl (c.in_ok-item.ensures _ t.has (separated_starless l c.in-Some-after_separator.ensures.next refl) (tableless_on t.keyword other)) _ c.in_ok-push-2.ensures.items
 
 pub returns-in_err-following : goal.returns-in_err-following
 returns-in_err-following g c read_state h other =
     let s = slash_stays h c.in-Some.ensures in
     let l = c.loop-following.invariant _ s.has refl (tableless_on s.keyword other) in
-    handed_on _ _ c.from_residual-in_err-following.result _ c.from_residual-in_err-following.ensures.1 (list_unclosed c.args.list h c.in-Some.ensures g.F.ExactField.value (listing_got l c.in_default-behind_separator.ensures) c.in_err-following.ensures)
+    handed_on _ _ c.from_residual-in_err-following.result _ c.from_residual-in_err-following.ensures.1 (list_unclosed c.args.list h c.in-Some.ensures g.F.ExactField.value (listing_got l c.in_default-after_separator.ensures) c.in_err-following.ensures)
 
 pub returns : goal.returns
 returns g c read_state h other =
     let s = slash_stays h c.in-Some.ensures in
     let l = c.loop-following.invariant _ s.has refl (tableless_on s.keyword other) in
-    list_got c.args.list h c.in-Some.ensures g.F.ExactField.value (listing_got l c.in_default-behind_separator.ensures) c.in_ok-following.ensures.next c.loop-following.items refl
+    list_got c.args.list h c.in-Some.ensures g.F.ExactField.value (listing_got l c.in_default-after_separator.ensures) c.in_ok-following.ensures.next c.loop-following.items refl

@@ -50,4 +50,4 @@ pub returns : goal.returns
 returns g c read_state h =
     let s = begun_starts c.args.self.now read_state Model c.in_ok-start.ensures.token c.in_ok-start.start refl refl refl refl h in
     let l = c.loop-following.invariant g.F.ExactField.limit _ s in
-    rw c.new-models-2.ensures (models_got g.F.ExactField.value c.in_ok-start.ensures.next (items_got (λ sense tree x k. k) model_items l c.in_default.ensures (c.behind_last_item.ensures c.in_default.ensures)))
+    rw c.new-models-2.ensures (models_got g.F.ExactField.value c.in_ok-start.ensures.next (items_got (λ sense tree x k. k) model_items l c.in_default.ensures (c.after_last_item.ensures c.in_default.ensures)))

@@ -1,7 +1,7 @@
 use Rattle.std.proofs.Common.{refl}
 use Rattle.gms_grammar.specs.declared.terminal.Terminal.TheVariants.{Equals}
 use Rattle.gms_expressions.proofs.Signs.{handed_on}
-use Rattle.gms_parse.proofs.Ends.{behind_within}
+use Rattle.gms_parse.proofs.Ends.{after_within}
 use Rattle.gms_parse.proofs.Steps.{refuses_first, refuses_second}
 use Rattle.gms_parse.proofs.Nexts.{gives_exact, plain_starts, kind_stays, tableless_on, refuses_lacking}
 use Rattle.gms_parse.proofs.Assigning.{right_value_got}
@@ -11,7 +11,7 @@ pub returns-in_err-right : goal.returns-in_err-right
 returns-in_err-right g c read_state s other = handed_on _ _ c.from_residual.result _ c.from_residual.ensures.1 (refuses_first (refuses_lacking c.in_err-right.ensures))
 
 pub expression-requires-clause-within : goal.expression-requires-clause-within
-expression-requires-clause-within g c = behind_within Equals c.requires c.in_ok-right.ensures.next refl
+expression-requires-clause-within g c = after_within Equals c.requires c.in_ok-right.ensures.next refl
 
 pub returns-in_err-value : goal.returns-in_err-value
 returns-in_err-value g c read_state s other =

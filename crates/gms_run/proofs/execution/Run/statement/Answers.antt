@@ -4,13 +4,13 @@ use Rattle.gms_eval.specs.Gives.{fault_of}
 use Rattle.gms_event.specs.Events.{stops}
 use Rattle.gms_event.specs.EventView.{events_in}
 use Rattle.lp_core.specs.Numbers.{answer_numbers}
-use Rattle.gms_exec.proofs.EarlierEvents.{behind_statement}
+use Rattle.gms_exec.proofs.EarlierEvents.{after_statement}
 use Rattle.gms_exec.specs.Run.{of_statement}
 use Rattle.gms_list.specs.ListingText.{event_text, events_text}
 use Rattle.gms_run.specs.InnerRuns.{between}
 use Rattle.gms_run.specs.Solving.{solver_views}
-use Rattle.gms_run.proofs.Executed.{all_stand, all_listable, listed_on, listed_stop}
-use Rattle.gms_run.proofs.Paths.{grown_answered}
+use Rattle.gms_run.proofs.Executed.{all_occur, all_listable, listed_on, listed_stop}
+use Rattle.gms_run.proofs.Paths.{extended_answered}
 use Rattle.gms_run.proofs.execution.Run.statement.Goals as goal
 
 pub step_alone-stepped-requires-clause-settings : goal.step_alone-stepped-requires-clause-settings
@@ -23,7 +23,7 @@ pub show-requires : goal.show-requires
 show-requires g c =
     let rules = map (λ b. (goal.LpSolver-dyn g (b.vtable, b.value)).rule b.value) c.args.solvers.now.items in
     rw c.as_slice-answers.ensures.value
-    (all_listable rules c.step_alone-stepped.new.answers.items c.step_alone-stepped.new.events.items (all_stand rules c.step_alone-stepped.new.answers.items c.new-events.result.items c.step_alone-stepped.new.events.items c.new-events.ensures.items c.in-Ok.ensures.valid))
+    (all_listable rules c.step_alone-stepped.new.answers.items c.step_alone-stepped.new.events.items (all_occur rules c.step_alone-stepped.new.answers.items c.new-events.result.items c.step_alone-stepped.new.events.items c.new-events.ensures.items c.in-Ok.ensures.valid))
 
 pub returns-in_ok-show-in-Ok-clause-listed : goal.returns-in_ok-show-in-Ok-clause-listed
 returns-in_ok-show-in-Ok-clause-listed g c =
@@ -35,11 +35,11 @@ returns-in_ok-show-in-Ok-clause-listed g c =
     let before = c.args.self.now.outlet.listing in
     listed_on program rules (of_statement frac_value frac_limit (record { program = program; solvers = names }) c.args.s.now []) (between (solver_views (λ b. (goal.LpSolver-dyn g (b.vtable, b.value)).name b.value) (λ b. (goal.LpSolver-dyn g (b.vtable, b.value)).rule b.value) (λ b. (goal.LpSolver-dyn g (b.vtable, b.value)).paths b.value) c.args.solvers.now.items) c.args.self.now)
     (record { state = c.step_alone-stepped.new.store; answers = answers; programs = c.show.new.solved.items; solvers = (solver_views (λ b. (goal.LpSolver-dyn g (b.vtable, b.value)).name b.value) (λ b. (goal.LpSolver-dyn g (b.vtable, b.value)).rule b.value) (λ b. (goal.LpSolver-dyn g (b.vtable, b.value)).paths b.value) c.step_alone-stepped.new.solvers.items) }) events
-    (λ beginning course. behind_statement frac_value frac_limit (record { program = program; solvers = names }) c.args.s.now beginning [] course)
+    (λ beginning course. after_statement frac_value frac_limit (record { program = program; solvers = names }) c.args.s.now beginning [] course)
     c.in-Ok.field-0 c.new-events.result.items before c.show.new.listing c.new-events.ensures.items
     c.in-Ok.ensures.runs
-    (all_stand rules answers c.new-events.result.items events c.new-events.ensures.items c.in-Ok.ensures.valid)
-    (grown_answered (λ b. (goal.LpSolver-dyn g (b.vtable, b.value)).name b.value) (λ b. (goal.LpSolver-dyn g (b.vtable, b.value)).rule b.value) (λ b. (goal.LpSolver-dyn g (b.vtable, b.value)).paths b.value) c.args.solvers.now.items c.step_alone-stepped.new.solvers.items answers
+    (all_occur rules answers c.new-events.result.items events c.new-events.ensures.items c.in-Ok.ensures.valid)
+    (extended_answered (λ b. (goal.LpSolver-dyn g (b.vtable, b.value)).name b.value) (λ b. (goal.LpSolver-dyn g (b.vtable, b.value)).rule b.value) (λ b. (goal.LpSolver-dyn g (b.vtable, b.value)).paths b.value) c.args.solvers.now.items c.step_alone-stepped.new.solvers.items answers
     c.new-events.result.items events c.new-events.ensures.items c.in-Ok.ensures.solvers)
     c.in_ok-show-in-Ok.ensures.kept
     (c.in_ok-show-in-Ok.ensures.listed ∙ ap (λ all. before ++ events_text program.names program.labels frac_limit (map (answer_numbers frac_value) all) (events_in frac_value events)) c.as_slice-answers.ensures.value)
@@ -51,7 +51,7 @@ pub show-requires-in-Err-Fault : goal.show-requires-in-Err-Fault
 show-requires-in-Err-Fault g c =
     let rules = map (λ b. (goal.LpSolver-dyn g (b.vtable, b.value)).rule b.value) c.args.solvers.now.items in
     rw c.as_slice-answers.ensures.value
-    (all_listable rules c.step_alone-stepped.new.answers.items c.step_alone-stepped.new.events.items (all_stand rules c.step_alone-stepped.new.answers.items c.new-events.result.items c.step_alone-stepped.new.events.items c.new-events.ensures.items (rw c.in-Err-Fault.field-0-is at c.in-Err-Fault.ensures.valid)))
+    (all_listable rules c.step_alone-stepped.new.answers.items c.step_alone-stepped.new.events.items (all_occur rules c.step_alone-stepped.new.answers.items c.new-events.result.items c.step_alone-stepped.new.events.items c.new-events.ensures.items (rw c.in-Err-Fault.field-0-is at c.in-Err-Fault.ensures.valid)))
 
 pub returns-in_ok-list_fault-in-Err-Fault-clause-listed : goal.returns-in_ok-list_fault-in-Err-Fault-clause-listed
 returns-in_ok-list_fault-in-Err-Fault-clause-listed g c =
@@ -63,11 +63,11 @@ returns-in_ok-list_fault-in-Err-Fault-clause-listed g c =
     let before = c.args.self.now.outlet.listing in
     listed_stop program rules (of_statement frac_value frac_limit (record { program = program; solvers = names }) c.args.s.now []) (between (solver_views (λ b. (goal.LpSolver-dyn g (b.vtable, b.value)).name b.value) (λ b. (goal.LpSolver-dyn g (b.vtable, b.value)).rule b.value) (λ b. (goal.LpSolver-dyn g (b.vtable, b.value)).paths b.value) c.args.solvers.now.items) c.args.self.now)
     (record { state = c.step_alone-stepped.new.store; answers = answers; programs = c.show-in-Err-Fault.new.solved.items; solvers = (solver_views (λ b. (goal.LpSolver-dyn g (b.vtable, b.value)).name b.value) (λ b. (goal.LpSolver-dyn g (b.vtable, b.value)).rule b.value) (λ b. (goal.LpSolver-dyn g (b.vtable, b.value)).paths b.value) c.step_alone-stepped.new.solvers.items) }) events
-    (λ beginning course. behind_statement frac_value frac_limit (record { program = program; solvers = names }) c.args.s.now beginning [] course)
+    (λ beginning course. after_statement frac_value frac_limit (record { program = program; solvers = names }) c.args.s.now beginning [] course)
     c.in-Err-Fault.stop c.new-events.result.items before c.show-in-Err-Fault.new.listing c.list_fault.new.listing c.new-events.ensures.items
     (rw c.in-Err-Fault.field-0-is at c.in-Err-Fault.ensures.runs)
-    (all_stand rules answers c.new-events.result.items events c.new-events.ensures.items (rw c.in-Err-Fault.field-0-is at c.in-Err-Fault.ensures.valid))
-    (grown_answered (λ b. (goal.LpSolver-dyn g (b.vtable, b.value)).name b.value) (λ b. (goal.LpSolver-dyn g (b.vtable, b.value)).rule b.value) (λ b. (goal.LpSolver-dyn g (b.vtable, b.value)).paths b.value) c.args.solvers.now.items c.step_alone-stepped.new.solvers.items answers
+    (all_occur rules answers c.new-events.result.items events c.new-events.ensures.items (rw c.in-Err-Fault.field-0-is at c.in-Err-Fault.ensures.valid))
+    (extended_answered (λ b. (goal.LpSolver-dyn g (b.vtable, b.value)).name b.value) (λ b. (goal.LpSolver-dyn g (b.vtable, b.value)).rule b.value) (λ b. (goal.LpSolver-dyn g (b.vtable, b.value)).paths b.value) c.args.solvers.now.items c.step_alone-stepped.new.solvers.items answers
     c.new-events.result.items events c.new-events.ensures.items (rw c.in-Err-Fault.field-0-is at c.in-Err-Fault.ensures.solvers))
     c.in_ok-show-in-Err-Fault.ensures.kept
     (c.in_ok-show-in-Err-Fault.ensures.listed

@@ -6,7 +6,7 @@ use Rattle.gms_run.specs.InnerRuns.{between, pending}
 use Rattle.gms_run.specs.InnerSteps.{CanExecute, work}
 use Rattle.gms_run.specs.Solving.{solver_views}
 use Rattle.gms_run.proofs.CallResults.{comes_broken, writing_failed, writing_memory}
-use Rattle.gms_run.proofs.Executing.{Executes, broke, came_done, came_stopped, come_more, come_start, executes_run, room_behind, same_many}
+use Rattle.gms_run.proofs.Executing.{Executes, broke, came_done, came_stopped, come_more, come_start, executes_run, bound_after, same_many}
 use Rattle.gms_run.proofs.execution.Run.statements.Goals as goal
 
 pub loop-s-init : goal.loop-s-init
@@ -98,7 +98,7 @@ loop-s-preserved g c =
     let goes = subst (λ b. Executes to_run before old expected mid b c.loop-s.s-index next (pending run)) c.if-not-continues.false executes in
     record {
       come = come_more to_run before old expected mid (g.H.Host.meaning c.pass.new.host).outside c.loop-s.s-index next (pending run) c.pass.new.self.spool c.pass.new.self.listing goes c.in_ok-pass.ensures.outside c.in_ok-pass.ensures.none;
-      within_bound = room_behind c.pass.new.self.spool c.pass.new.self.listing c.in_ok-pass.ensures.within_bound c.in_ok-pass.ensures.none;
+      within_bound = bound_after c.pass.new.self.spool c.pass.new.self.listing c.in_ok-pass.ensures.within_bound c.in_ok-pass.ensures.none;
       can_execute = subst (λ n. CanExecute c.args.program.now n run.store) (same_many (λ b. (goal.LpSolver-dyn g (b.vtable, b.value)).name b.value) c.loop-s.solvers.items c.args.solvers.now.items c.loop-s.invariant.come.done.extended.names) c.in_ok-continues.ensures.can_execute;
       counts = writing_more tt at.counts (writing_done _ tt c.in_ok-pass.ensures.counts);
     }

@@ -19,7 +19,7 @@ returns-else-place-len-clause-absent c =
     let is : c.count-place.result ≡ count_by (is_within false c.args.t.now) c.args.self.now = c.count-place.ensures ∙ ap (count_by (is_within false c.args.t.now)) c.self.view_is in
     absent-at c.args.self.now c.args.t.now c.count-place.result ordered is (elim c.else-place-len.branch [
       | else-place-len-via-then-place-len+else-eq w ↦ λ l member at.
-          let stands : slice_get c.args.self.now c.count-place.result ≡ Some w.get.result.now = ap (λ xs. slice_get xs c.count-place.result) (sym c.self.view_is) ∙ w.get.ensures in
+          let occurs : slice_get c.args.self.now c.count-place.result ≡ Some w.get.result.now = ap (λ xs. slice_get xs c.count-place.result) (sym c.self.view_is) ∙ w.get.ensures in
           let same : member ≡ w.get.result.now = cc in
           ap (λ m. same_tuple m c.args.t.now) same ∙ sym w.if-eq.ensures
       | else-place-len-via-else-place-len w ↦ λ l member at. absurd (omega (arith, w.if-place-len.false, c.len.ensures, ap length c.self.view_is, l))

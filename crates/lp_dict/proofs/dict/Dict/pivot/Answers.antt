@@ -7,7 +7,7 @@ use Rattle.lp_core.specs.Dictionary.{Meets, IsLegal, exchanged}
 use Rattle.lp_core.specs.Steps.{AllFit, exchange_steps}
 use Rattle.lp_std.specs.Last.{IsDictionaryOf}
 use Rattle.lp_dict.specs.Tableau.{Tableau, tableau, dictionary, kept}
-use Rattle.lp_dict.proofs.Follows.{same_points, stays_of_form, is_not_due, stays_proper, stays_few}
+use Rattle.lp_dict.proofs.Follows.{same_points, stays_of_form, is_not_required, stays_proper, stays_few}
 use Rattle.lp_dict.proofs.dict.Dict.pivot.Goals as goal
 
 pub pivoted-requires-clause-legal : goal.pivoted-requires-clause-legal
@@ -21,7 +21,7 @@ invariant_of-result g c =
       proper = stays_proper (kept g.F.ExactField.value c.self.inside.body) c.args.p c.self.invariant.proper legal (kept g.F.ExactField.value c.in_ok-body.body) follows.is_exchanged;
       few = stays_few (kept g.F.ExactField.value c.self.inside.body) c.args.p c.self.invariant.proper legal (kept g.F.ExactField.value c.in_ok-body.body) follows.is_exchanged c.self.invariant.few;
       bounded = follows.bounded;
-      opened = λ _. is_not_due (kept g.F.ExactField.value c.self.inside.body) c.args.p c.self.invariant.proper legal (kept g.F.ExactField.value c.in_ok-body.body) follows.is_exchanged;
+      opened = λ _. is_not_required (kept g.F.ExactField.value c.self.inside.body) c.args.p c.self.invariant.proper legal (kept g.F.ExactField.value c.in_ok-body.body) follows.is_exchanged;
     }
 
 pub returns-clause-exchanged : goal.returns-clause-exchanged
@@ -47,7 +47,7 @@ returns-clause-of_form g c =
 pub returns-clause-not_required : goal.returns-clause-not_required
 returns-clause-not_required g c =
     let legal = subst (λ (t : Tableau _). (k : ℕ) × IsLegal (dictionary g.F.ExactField.value t) c.args.p k) (sym c.self.view_is) c.requires in
-    is_not_due (kept g.F.ExactField.value c.self.inside.body) c.args.p c.self.invariant.proper legal (kept g.F.ExactField.value c.in_ok-body.body) c.in_ok-body.ensures.follows.is_exchanged
+    is_not_required (kept g.F.ExactField.value c.self.inside.body) c.args.p c.self.invariant.proper legal (kept g.F.ExactField.value c.in_ok-body.body) c.in_ok-body.ensures.follows.is_exchanged
 
 pub returns-clause-upcoming : goal.returns-clause-upcoming
 returns-clause-upcoming g c =

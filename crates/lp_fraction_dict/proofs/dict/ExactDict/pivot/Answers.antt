@@ -11,7 +11,7 @@ use Rattle.lp_fraction_dict.specs.Tableau.{FractionTableau, fraction_dictionary,
 use Rattle.lp_fraction_dict.specs.Lines.{entries_of_rows}
 use Rattle.lp_fraction_dict.proofs.Kept.{length-rows, not_there}
 use Rattle.lp_fraction_dict.proofs.Proper.{leaves_at}
-use Rattle.lp_fraction_dict.proofs.Turned.{place_in_rows, place_in_basic, number_some, fault_room, fault_stops, kept_tableau, is_exchanged, all_fit, same_points, stays_of_form, is_not_due}
+use Rattle.lp_fraction_dict.proofs.Turned.{place_in_rows, place_in_basic, number_some, fault_bound, fault_stops, kept_tableau, is_exchanged, all_fit, same_points, stays_of_form, is_not_required}
 use Rattle.lp_fraction_dict.proofs.dict.ExactDict.pivot.Goals as goal
 
 pub unreachable-requires : goal.unreachable-requires
@@ -27,7 +27,7 @@ pub turn-requires-clause-some : goal.turn-requires-clause-some
 turn-requires-clause-some g c = number_some g.F.ExactField.value g.F.ExactField.limit (record { variables = c.self.inside.variables; basic = c.self.inside.basic.items; rows = entries_of_rows c.self.inside.rows.items; objective = c.self.inside.objective.items; upcoming = c.self.inside.upcoming }) c.args.p c.self.invariant (subst (λ (t : FractionTableau _). (k : ℕ) × IsLegal (fraction_dictionary g.F.ExactField.value t) c.args.p k) (sym c.self.view_is) c.requires) c.in-Some.place (subst (λ b. slice_get b c.in-Some.place ≡ Some c.args.p.leave) c.as_slice.ensures.value c.in-Some.ensures)
 
 pub stop-requires : goal.stop-requires
-stop-requires g c = fault_room g.F.ExactField.value g.F.ExactField.limit (record { variables = c.self.inside.variables; basic = c.self.inside.basic.items; rows = entries_of_rows c.self.inside.rows.items; objective = c.self.inside.objective.items; upcoming = c.self.inside.upcoming }) c.args.p c.self.invariant (subst (λ (t : FractionTableau _). (k : ℕ) × IsLegal (fraction_dictionary g.F.ExactField.value t) c.args.p k) (sym c.self.view_is) c.requires) c.in-Some.place (subst (λ b. slice_get b c.in-Some.place ≡ Some c.args.p.leave) c.as_slice.ensures.value c.in-Some.ensures) c.in-Err.fault ((c.in-Err.ensures (c.self.inside.variables + 2) c.self.invariant.rows c.self.invariant.objective).1)
+stop-requires g c = fault_bound g.F.ExactField.value g.F.ExactField.limit (record { variables = c.self.inside.variables; basic = c.self.inside.basic.items; rows = entries_of_rows c.self.inside.rows.items; objective = c.self.inside.objective.items; upcoming = c.self.inside.upcoming }) c.args.p c.self.invariant (subst (λ (t : FractionTableau _). (k : ℕ) × IsLegal (fraction_dictionary g.F.ExactField.value t) c.args.p k) (sym c.self.view_is) c.requires) c.in-Some.place (subst (λ b. slice_get b c.in-Some.place ≡ Some c.args.p.leave) c.as_slice.ensures.value c.in-Some.ensures) c.in-Err.fault ((c.in-Err.ensures (c.self.inside.variables + 2) c.self.invariant.rows c.self.invariant.objective).1)
 
 pub returns-in-Err-clause-limit : goal.returns-in-Err-clause-limit
 returns-in-Err-clause-limit g c =
@@ -61,4 +61,4 @@ returns-clause-of_form g c =
     (stays_of_form g.F.ExactField.value g.F.ExactField.limit (record { variables = c.self.inside.variables; basic = c.self.inside.basic.items; rows = entries_of_rows c.self.inside.rows.items; objective = c.self.inside.objective.items; upcoming = c.self.inside.upcoming }) c.args.p c.self.invariant (subst (λ (t : FractionTableau _). (k : ℕ) × IsLegal (fraction_dictionary g.F.ExactField.value t) c.args.p k) (sym c.self.view_is) c.requires) c.in-Some.place (subst (λ b. slice_get b c.in-Some.place ≡ Some c.args.p.leave) c.as_slice.ensures.value c.in-Some.ensures) (entries_of_rows c.turn.new.rows.items) c.turn.new.objective.items ((c.in_default-turn.ensures (c.self.inside.variables + 2) c.self.invariant.rows c.self.invariant.objective).0) (record { variables = c.self.inside.variables; basic = slice_set c.self.inside.basic.items c.in-Some.place c.args.p.enter; rows = entries_of_rows c.forget_leaving.new.rows.items; objective = c.forget_leaving.new.objective.items; upcoming = c.saturating_add.result }) refl refl c.forget_leaving.ensures.rows c.forget_leaving.ensures.objective)
 
 pub returns-clause-not_required : goal.returns-clause-not_required
-returns-clause-not_required g c = is_not_due g.F.ExactField.value g.F.ExactField.limit (record { variables = c.self.inside.variables; basic = c.self.inside.basic.items; rows = entries_of_rows c.self.inside.rows.items; objective = c.self.inside.objective.items; upcoming = c.self.inside.upcoming }) c.args.p c.self.invariant (subst (λ (t : FractionTableau _). (k : ℕ) × IsLegal (fraction_dictionary g.F.ExactField.value t) c.args.p k) (sym c.self.view_is) c.requires) c.in-Some.place (subst (λ b. slice_get b c.in-Some.place ≡ Some c.args.p.leave) c.as_slice.ensures.value c.in-Some.ensures) (entries_of_rows c.turn.new.rows.items) c.turn.new.objective.items ((c.in_default-turn.ensures (c.self.inside.variables + 2) c.self.invariant.rows c.self.invariant.objective).0) (record { variables = c.self.inside.variables; basic = slice_set c.self.inside.basic.items c.in-Some.place c.args.p.enter; rows = entries_of_rows c.forget_leaving.new.rows.items; objective = c.forget_leaving.new.objective.items; upcoming = c.saturating_add.result }) refl refl c.forget_leaving.ensures.rows c.forget_leaving.ensures.objective
+returns-clause-not_required g c = is_not_required g.F.ExactField.value g.F.ExactField.limit (record { variables = c.self.inside.variables; basic = c.self.inside.basic.items; rows = entries_of_rows c.self.inside.rows.items; objective = c.self.inside.objective.items; upcoming = c.self.inside.upcoming }) c.args.p c.self.invariant (subst (λ (t : FractionTableau _). (k : ℕ) × IsLegal (fraction_dictionary g.F.ExactField.value t) c.args.p k) (sym c.self.view_is) c.requires) c.in-Some.place (subst (λ b. slice_get b c.in-Some.place ≡ Some c.args.p.leave) c.as_slice.ensures.value c.in-Some.ensures) (entries_of_rows c.turn.new.rows.items) c.turn.new.objective.items ((c.in_default-turn.ensures (c.self.inside.variables + 2) c.self.invariant.rows c.self.invariant.objective).0) (record { variables = c.self.inside.variables; basic = slice_set c.self.inside.basic.items c.in-Some.place c.args.p.enter; rows = entries_of_rows c.forget_leaving.new.rows.items; objective = c.forget_leaving.new.objective.items; upcoming = c.saturating_add.result }) refl refl c.forget_leaving.ensures.rows c.forget_leaving.ensures.objective

@@ -1,7 +1,7 @@
 use Rattle.std.proofs.Common.{sym, ap, ◌∙◌}
 use Rattle.std.specs.Option.{option_copied}
 use Rattle.lp_form.proofs.LoopSteps.{following-before, Less-from_test}
-use Rattle.lp_form.proofs.terms.is_behind.Goals as goal
+use Rattle.lp_form.proofs.terms.is_after.Goals as goal
 
 pub returns-in-Some-Some : goal.returns-in-Some-Some
 returns-in-Some-Some c =

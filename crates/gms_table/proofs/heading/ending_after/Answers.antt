@@ -5,7 +5,7 @@ use Rattle.std.proofs.lemmas.List.Sorted.{IsPartitionPoint-from_clause}
 use Rattle.std.specs.List.Sorted.{IsPartitionPoint}
 use Rattle.gms_table.specs.declared.heading.Heading.{Heading}
 use Rattle.gms_table.proofs.HeadingLemmas.{ends_partitioned, left_over}
-use Rattle.gms_table.proofs.heading.ending_behind.Goals as goal
+use Rattle.gms_table.proofs.heading.ending_after.Goals as goal
 
 pub returns : goal.returns
 returns c = λ table names number are spaced at.

@@ -1,7 +1,7 @@
 use Rattle.gms_store.proofs.Parts.{less_from_index}
 use Rattle.std.proofs.Common.{◌∙◌, sym}
 use Rattle.gms_set.proofs.LaterTuples.{given-following, none-following}
-use Rattle.gms_set.proofs.seen.is_behind.Goals as goal
+use Rattle.gms_set.proofs.seen.is_after.Goals as goal
 
 pub returns-in-Some : goal.returns-in-Some
 returns-in-Some g c = λ following.
