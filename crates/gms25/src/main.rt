@@ -10,11 +10,10 @@ ghost use Rattle.gms25.specs.Program.{EndsGiven, ExitsSo, HasWords, RunsWith, le
 
 use gms_host::{Host, RealHost};
 use gms_run::{Status, run};
-use lp_any::Any;
+use lp_any::{Any, Steepest};
 use lp_bland::Bland;
 use lp_dantzig::Dantzig;
 use lp_slot::LpSolver;
-use lp_steepest::Steepest;
 use std::alloc::{AllocError, Global};
 use std::env::{self, Args};
 use std::io::{self, ErrorKind};

@@ -5,3 +5,6 @@ mod Parts
 mod PlainWords
 mod Rows
 mod Sizes
+pub mod Appended
+pub mod Same
+pub mod Says

@@ -1,2 +1,4 @@
 pub mod CommandLine
 pub mod Laws
+pub mod RangeTexts
+pub mod Answered

@@ -4,7 +4,7 @@ ghost use Rattle.std.specs.Prelude.{codes};
 ghost use Rattle.gms_expressions.specs.ExpressionTrees.{is_word, suffix_of, fold_op_of, function_of, relation_of_word, relation_of, lag_op_of, is_minus, is_slash};
 
 use gms_ast::{FoldOp, Function, LagOp, RelOp, Suffix};
-use gms_lines::{Kind, Sym};
+use gms_grammar::{Kind, Sym};
 
 /// The suffix that a word after a dot is, in capital or small letters (GAMS User's Guide,
 /// "Variables").

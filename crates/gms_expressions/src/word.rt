@@ -4,9 +4,8 @@ ghost use Rattle.gms_grammar.specs.Keywords.{kind_among};
 ghost use Rattle.gms_expressions.specs.Words.{expression_words, other_words, terminal_of_word, terminal_of_symbol, terminal_of_text, terminal_of};
 ghost use Rattle.gms_lex.specs.TokenTexts.{token_text};
 
-use gms_grammar::{Terminal, statement_word};
+use gms_grammar::{Kind, Sym, Terminal, is_among, statement_word};
 use gms_lex::Token;
-use gms_lines::{Kind, Sym, is_among};
 
 /// How many bytes a quoted label has at most, with its marks.
 const MOST_QUOTED_BYTES: usize = 65;

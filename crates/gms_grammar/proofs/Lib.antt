@@ -1,3 +1,8 @@
+pub mod LineLemmas
+pub mod FirstLemmas
+pub mod ColumnLemmas
+pub mod FieldLemmas
+pub mod WithinLemmas
 pub mod Basics
 pub mod Starts
 pub mod Sound

@@ -1,7 +1,7 @@
 -- The words that begin statements, and the kinds of words (GAMS User's Guide, "GAMS Programs" and
 -- "Language Items", reserved words).
 use Rattle.std.specs.Prelude.{ℕ, if◌then◌else◌, List, [], ◌∷◌, Option, Some, None, codes}
-use Rattle.gms_lines.specs.ControlWords.{is_word_among}
+use Rattle.gms_grammar.specs.ControlWords.{is_word_among}
 use Rattle.gms_grammar.specs.declared.terminal.Terminal.{Terminal}
 use Rattle.gms_grammar.specs.declared.terminal.Terminal.TheVariants.{Abort, Alias, Display, Equation, Loop, Model, Option as OptionWord, Parameter, Scalar, Set, Solve, Table, Variable, VariableType}
 

@@ -1,3 +1,15 @@
+pub mod Errors
+pub mod Lines
+pub mod ControlWords
+pub mod LineFaults
+pub mod InnerLineSearch
+pub mod Bytes
+pub mod Numbers
+pub mod Symbols
+pub mod Shapes
+pub mod SplitFields
+pub mod Columns
+pub mod TableLines
 pub mod Grammar
 pub mod LookAhead
 pub mod Reading

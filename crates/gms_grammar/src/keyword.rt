@@ -3,7 +3,7 @@ ghost use Rattle.std.specs.Prelude.{◌≡◌};
 ghost use Rattle.gms_grammar.specs.Keywords.{statement_words, kind_among};
 
 use crate::terminal::Terminal;
-use gms_lines::is_among;
+use crate::line::is_among;
 
 /// A kind of words that begin a statement, and its words.
 struct Keyword {

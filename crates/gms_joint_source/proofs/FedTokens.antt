@@ -8,20 +8,20 @@ use Rattle.std.proofs.lemmas.List.Sums.{prefix_len-le-length}
 use Rattle.std.specs.List.{prefix_len}
 use Rattle.std.specs.Char.{is_ascii_alphabetic, is_ascii_alphanumeric, is_ascii_digit, to_ascii_lowercase}
 use Rattle.std.specs.Str.{str_eq_ignore_ascii_case}
-use Rattle.gms_lines.specs.Lines.{begins, is_blank, is_line_end, before, content}
-use Rattle.gms_lines.proofs.LineLemmas.{true_or_false}
-use Rattle.gms_lines.specs.declared.kind.Sym.{Sym}
-use Rattle.gms_lines.specs.declared.kind.Sym.TheVariants.{EqE}
-use Rattle.gms_lines.specs.declared.kind.Kind.{Kind}
-use Rattle.gms_lines.specs.declared.kind.Kind.TheVariants.{Word, Label, Number, Text}
-use Rattle.gms_lines.specs.declared.lexeme.Piece.{Piece}
-use Rattle.gms_lines.specs.declared.lexeme.Piece.TheVariants.{Gap, LineEnd, Remark, Token}
-use Rattle.gms_lines.specs.Bytes.{is_name_byte, is_label_byte, is_quote, is_text_byte, is_ascii}
-use Rattle.gms_lines.specs.Numbers.{begins_number, begins_dot, digit_count, point_length, is_sign, sign_length, exponent_length, decimal_length, number_length}
-use Rattle.gms_lines.specs.Symbols.{written_symbol, symbols, begins_with_word, longest_symbol}
-use Rattle.gms_lines.specs.Shapes.{Read, lexeme, bounded, symbol_read, symbol, quoted_length, quoted_of, quoted, code_token, label_token, remark_of, remark}
-use Rattle.gms_lines.specs.TableLines.{table_bytes, table_line_of, table_line}
-use Rattle.gms_lines.proofs.WithinLemmas.{table_bytes_le}
+use Rattle.gms_grammar.specs.Lines.{begins, is_blank, is_line_end, before, content}
+use Rattle.gms_grammar.proofs.LineLemmas.{true_or_false}
+use Rattle.gms_grammar.specs.declared.kind.Sym.{Sym}
+use Rattle.gms_grammar.specs.declared.kind.Sym.TheVariants.{EqE}
+use Rattle.gms_grammar.specs.declared.kind.Kind.{Kind}
+use Rattle.gms_grammar.specs.declared.kind.Kind.TheVariants.{Word, Label, Number, Text}
+use Rattle.gms_grammar.specs.declared.lexeme.Piece.{Piece}
+use Rattle.gms_grammar.specs.declared.lexeme.Piece.TheVariants.{Gap, LineEnd, Remark, Token}
+use Rattle.gms_grammar.specs.Bytes.{is_name_byte, is_label_byte, is_quote, is_text_byte, is_ascii}
+use Rattle.gms_grammar.specs.Numbers.{begins_number, begins_dot, digit_count, point_length, is_sign, sign_length, exponent_length, decimal_length, number_length}
+use Rattle.gms_grammar.specs.Symbols.{written_symbol, symbols, begins_with_word, longest_symbol}
+use Rattle.gms_grammar.specs.Shapes.{Read, lexeme, bounded, symbol_read, symbol, quoted_length, quoted_of, quoted, code_token, label_token, remark_of, remark}
+use Rattle.gms_grammar.specs.TableLines.{table_bytes, table_line_of, table_line}
+use Rattle.gms_grammar.proofs.WithinLemmas.{table_bytes_le}
 use Rattle.gms_lex.specs.declared.keyword.Shape.{Shape}
 use Rattle.gms_lex.specs.declared.keyword.Shape.TheVariants.{Set, Parameter, Scalar, Model}
 use Rattle.gms_lex.specs.declared.mode.Stage.{Stage}

@@ -2,8 +2,8 @@
 use Rattle.std.proofs.Common.{◌≡◌, inl, inr, ℕ, zero, suc, ◌+◌, ◌==◌, ◌&&◌, ◌||◌, ◌<◌, Bool, true, false, not, cond, if◌then◌else◌, List, [], ◌∷◌, ◌++◌, length, take, drop, refl, sym, ap, ap₂, ◌∙◌, arith}
 use Rattle.std.proofs.lemmas.List.{take-append-le}
 use Rattle.std.specs.List.{prefix_len}
-use Rattle.gms_lines.specs.Lines.{begins, is_blank, is_line_end, before, content}
-use Rattle.gms_lines.proofs.LineLemmas.{true_or_false, before-le-length}
+use Rattle.gms_grammar.specs.Lines.{begins, is_blank, is_line_end, before, content}
+use Rattle.gms_grammar.proofs.LineLemmas.{true_or_false, before-le-length}
 use Rattle.gms_lex.specs.Pieces.{begins_other, space_length}
 
 -- a text followed by a line feed and more

@@ -2,10 +2,10 @@
 use Rattle.std.proofs.Common.{◌≡◌, ℕ, ◌+◌, ◌-◌, ◌≤◌, true, false, List, [], ◌∷◌, ◌++◌, length, All, refl, sym, ap, ap₂, ◌∙◌, subst, arith, append_assoc}
 use Rattle.std.proofs.lemmas.List.{map-append, length-append}
 use Rattle.std.proofs.lemmas.List.Elements.{All-head, All-tail, All-nil, All-cons, All-append}
-use Rattle.gms_lines.specs.Lines.{code_text}
-use Rattle.gms_lines.specs.declared.kind.Kind.{Kind}
-use Rattle.gms_lines.specs.declared.kind.Kind.TheVariants.{Break, Symbol}
-use Rattle.gms_lines.specs.declared.kind.Sym.TheVariants.{Semicolon}
+use Rattle.gms_grammar.specs.Lines.{code_text}
+use Rattle.gms_grammar.specs.declared.kind.Kind.{Kind}
+use Rattle.gms_grammar.specs.declared.kind.Kind.TheVariants.{Break, Symbol}
+use Rattle.gms_grammar.specs.declared.kind.Sym.TheVariants.{Semicolon}
 use Rattle.gms_lex.specs.declared.token.Token.{Token}
 use Rattle.gms_lex.specs.TokenTexts.{token_text, IsPlaced}
 use Rattle.gms_lex.specs.Tokens.{IsTokens, end_token, tokens_of}

@@ -7,14 +7,14 @@ use Rattle.std.proofs.Math.Seq.{take-length}
 use Rattle.std.specs.List.{list_any}
 use Rattle.std.specs.Char.{to_ascii_lowercase}
 use Rattle.std.specs.Str.{str_eq_ignore_ascii_case}
-use Rattle.gms_lines.specs.declared.line.Class.{Class}
-use Rattle.gms_lines.specs.declared.line.Class.TheVariants.{Comment, Control, Code}
-use Rattle.gms_lines.specs.declared.fault.LexError.TheVariants.{BadByte, OpenText}
-use Rattle.gms_lines.specs.declared.fault.ByteFault.{ByteFault}
-use Rattle.gms_lines.specs.ControlWords.{block_word, block_end}
-use Rattle.gms_lines.specs.LineFaults.{is_bad, IsLineError, IsInLines}
-use Rattle.gms_lines.specs.Lines.{put_first, lines, is_line_end, before, content, is_blank, class_of, closes, opens, inside_after, blanked, read_as, code_of, code_text}
-use Rattle.gms_lines.proofs.LineLemmas.{true_or_false}
+use Rattle.gms_grammar.specs.declared.line.Class.{Class}
+use Rattle.gms_grammar.specs.declared.line.Class.TheVariants.{Comment, Control, Code}
+use Rattle.gms_grammar.specs.declared.fault.LexError.TheVariants.{BadByte, OpenText}
+use Rattle.gms_grammar.specs.declared.fault.ByteFault.{ByteFault}
+use Rattle.gms_grammar.specs.ControlWords.{block_word, block_end}
+use Rattle.gms_grammar.specs.LineFaults.{is_bad, IsLineError, IsInLines}
+use Rattle.gms_grammar.specs.Lines.{put_first, lines, is_line_end, before, content, is_blank, class_of, closes, opens, inside_after, blanked, read_as, code_of, code_text}
+use Rattle.gms_grammar.proofs.LineLemmas.{true_or_false}
 use Rattle.gms_joint_source.proofs.Feeds.{fed, ends_in_return, content_fed}
 use Rattle.gms_joint_source.proofs.FedTokens.{no_feed, first_false}
 

@@ -1,11 +1,11 @@
 -- The tokens of a joint source begin with those of the saved source, a `;` follows them.
 use Rattle.std.proofs.Common.{◌≡◌, ℕ, ◌+◌, ◌≤◌, false, List, [], ◌∷◌, ◌++◌, length, take, drop, Ok, refl, sym, ap, ap₂, ◌∙◌, subst, arith, append_assoc, inl, inr}
 use Rattle.std.proofs.lemmas.List.{take-append-le, drop-append-le, length-drop}
-use Rattle.gms_lines.specs.Lines.{lines, code_text}
-use Rattle.gms_lines.specs.declared.fault.ByteFault.{ByteFault}
-use Rattle.gms_lines.specs.LineFaults.{IsInLines}
-use Rattle.gms_lines.proofs.LineLemmas.{below_or, before-le-length}
-use Rattle.gms_lines.specs.declared.lexeme.Lexeme.{Lexeme}
+use Rattle.gms_grammar.specs.Lines.{lines, code_text}
+use Rattle.gms_grammar.specs.declared.fault.ByteFault.{ByteFault}
+use Rattle.gms_grammar.specs.LineFaults.{IsInLines}
+use Rattle.gms_grammar.proofs.LineLemmas.{below_or, before-le-length}
+use Rattle.gms_grammar.specs.declared.lexeme.Lexeme.{Lexeme}
 use Rattle.gms_lex.specs.declared.mode.Mode.{Mode}
 use Rattle.gms_lex.specs.declared.mode.Mode.TheVariants.{Code}
 use Rattle.gms_lex.specs.declared.token.Token.{Token}

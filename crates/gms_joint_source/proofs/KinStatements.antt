@@ -3,7 +3,7 @@
 use Rattle.std.proofs.Common.{◌≡◌, ℕ, Bool, List, [], Option, Some, None, refl, ap, ap₂, ◌∙◌}
 use Rattle.gq_number.specs.Number.{Number as Rational}
 use Rattle.gms_labels.specs.declared.place.Place.{Place}
-use Rattle.gms_lines.specs.declared.kind.Kind.{Kind}
+use Rattle.gms_grammar.specs.declared.kind.Kind.{Kind}
 use Rattle.gms_lex.specs.TokenTexts.{unquoted}
 use Rattle.gms_ast.specs.declared.word.Named.{Named}
 use Rattle.gms_ast.specs.declared.word.Word.{Word}

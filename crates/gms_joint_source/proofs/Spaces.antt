@@ -8,17 +8,17 @@ use Rattle.std.proofs.lemmas.List.Elements.{All-nil, All-cons, All-append}
 use Rattle.std.proofs.Math.Seq.{drop-append-add}
 use Rattle.std.specs.List.{prefix_len}
 use Rattle.gms_labels.specs.declared.place.Place.{Place}
-use Rattle.gms_lines.specs.Lines.{begins, is_blank, is_line_end, before, content}
-use Rattle.gms_lines.proofs.LineLemmas.{true_or_false, below_or}
-use Rattle.gms_lines.specs.declared.kind.Sym.TheVariants.{Semicolon}
-use Rattle.gms_lines.specs.declared.kind.Kind.TheVariants.{Symbol, Break}
-use Rattle.gms_lines.specs.declared.lexeme.Piece.{Piece}
-use Rattle.gms_lines.specs.declared.lexeme.Piece.TheVariants.{Gap, LineEnd, Remark, Token}
-use Rattle.gms_lines.specs.declared.lexeme.Lexeme.{Lexeme}
-use Rattle.gms_lines.specs.Symbols.{written_symbol, symbols, begins_with_word, longest_symbol}
-use Rattle.gms_lines.specs.Shapes.{Read, symbol_read, symbol, label_token}
-use Rattle.gms_lines.specs.TableLines.{table_bytes}
-use Rattle.gms_lines.proofs.WithinLemmas.{table_bytes_le}
+use Rattle.gms_grammar.specs.Lines.{begins, is_blank, is_line_end, before, content}
+use Rattle.gms_grammar.proofs.LineLemmas.{true_or_false, below_or}
+use Rattle.gms_grammar.specs.declared.kind.Sym.TheVariants.{Semicolon}
+use Rattle.gms_grammar.specs.declared.kind.Kind.TheVariants.{Symbol, Break}
+use Rattle.gms_grammar.specs.declared.lexeme.Piece.{Piece}
+use Rattle.gms_grammar.specs.declared.lexeme.Piece.TheVariants.{Gap, LineEnd, Remark, Token}
+use Rattle.gms_grammar.specs.declared.lexeme.Lexeme.{Lexeme}
+use Rattle.gms_grammar.specs.Symbols.{written_symbol, symbols, begins_with_word, longest_symbol}
+use Rattle.gms_grammar.specs.Shapes.{Read, symbol_read, symbol, label_token}
+use Rattle.gms_grammar.specs.TableLines.{table_bytes}
+use Rattle.gms_grammar.proofs.WithinLemmas.{table_bytes_le}
 use Rattle.gms_lex.specs.declared.keyword.Shape.{Shape}
 use Rattle.gms_lex.specs.declared.keyword.Shape.TheVariants.{Parameter}
 use Rattle.gms_lex.specs.declared.mode.Stage.{Stage}

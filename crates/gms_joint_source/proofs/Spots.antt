@@ -1,11 +1,11 @@
 -- The position of the next token in a declaration, as far as lists of data go: the mode after
 -- tokens of some kinds.
 use Rattle.std.proofs.Common.{◌≡◌, ℕ, ◌==◌, Bool, true, false, nat_lt, if◌then◌else◌, List, [], ◌∷◌, length, Option, Some, None, option_map, refl, sym, ap, ◌∙◌, subst, ◌⊎◌, inl, inr}
-use Rattle.gms_lines.specs.ControlWords.{is_word_among}
-use Rattle.gms_lines.specs.declared.kind.Sym.{Sym}
-use Rattle.gms_lines.specs.declared.kind.Sym.TheVariants.{EqE, Slash as SlashSymbol, RightParen as Close, Comma as CommaSymbol, Semicolon as SemicolonSymbol, Dot as DotSymbol, DotDot as DotDotSymbol, Star as StarSymbol, Power as PowerSymbol}
-use Rattle.gms_lines.specs.declared.kind.Kind.{Kind}
-use Rattle.gms_lines.specs.declared.kind.Kind.TheVariants as kind
+use Rattle.gms_grammar.specs.ControlWords.{is_word_among}
+use Rattle.gms_grammar.specs.declared.kind.Sym.{Sym}
+use Rattle.gms_grammar.specs.declared.kind.Sym.TheVariants.{EqE, Slash as SlashSymbol, RightParen as Close, Comma as CommaSymbol, Semicolon as SemicolonSymbol, Dot as DotSymbol, DotDot as DotDotSymbol, Star as StarSymbol, Power as PowerSymbol}
+use Rattle.gms_grammar.specs.declared.kind.Kind.{Kind}
+use Rattle.gms_grammar.specs.declared.kind.Kind.TheVariants as kind
 use Rattle.gms_lex.specs.declared.keyword.Shape.{Shape}
 use Rattle.gms_lex.specs.declared.keyword.Shape.TheVariants as shape
 use Rattle.gms_lex.specs.declared.keyword.Keyword.{Keyword}

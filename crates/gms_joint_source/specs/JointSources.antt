@@ -1,8 +1,8 @@
 -- Joint sources: a saved source, and a file that continues it; what their tokens and their
 -- derivation begin with (GAMS User's Guide, "Save and Restart", "GAMS Programs").
 use Rattle.std.specs.Prelude.{◌≡◌, ℕ, ◌+◌, ◌≤◌, ◌==◌, List, [], ◌∷◌, ◌++◌, length, filter, All}
-use Rattle.gms_lines.specs.declared.kind.Kind.TheVariants.{Break, Symbol}
-use Rattle.gms_lines.specs.declared.kind.Sym.TheVariants.{Semicolon}
+use Rattle.gms_grammar.specs.declared.kind.Kind.TheVariants.{Break, Symbol}
+use Rattle.gms_grammar.specs.declared.kind.Sym.TheVariants.{Semicolon}
 use Rattle.gms_lex.specs.declared.token.Token.{Token}
 use Rattle.gms_lex.specs.Tokens.{end_token}
 use Rattle.gms_grammar.specs.declared.terminal.Terminal.{Terminal}

@@ -1,6 +1,6 @@
 //! Laws of joint sources.
 ghost use Rattle.std.specs.Prelude.{◌≡◌, ℕ, List, [], ◌++◌};
-ghost use Rattle.gms_lines.specs.Lines.{code_text};
+ghost use Rattle.gms_grammar.specs.Lines.{code_text};
 ghost use Rattle.gms_lex.specs.declared.token.Token.{Token};
 ghost use Rattle.gms_lex.specs.Tokens.{IsTokens};
 ghost use Rattle.gms_grammar.specs.declared.terminal.Terminal.{Terminal};

@@ -3,7 +3,7 @@ use Rattle.std.proofs.Common.{◌≡◌, ℕ, true, List, refl}
 use Rattle.std.specs.Fmt.{digits}
 use Rattle.gq_number.specs.Gcd.{gcd, gcd_in_steps}
 use Rattle.gq_number.specs.Number.{whole, ratio, ◌+ℚ◌, ◌*ℚ◌, neg_ℚ, inv_ℚ, ◌/ℚ◌}
-use Rattle.gms_lines.specs.Symbols.{longest_symbol}
+use Rattle.gms_grammar.specs.Symbols.{longest_symbol}
 use Rattle.gms_lex.specs.Keywords.{keyword_of}
 use Rattle.gms_expressions.specs.ExpressionTrees.{suffix_of, fold_op_of, function_of, relation_of_word}
 use Rattle.gms_expressions.specs.Valuations.{number_meant}

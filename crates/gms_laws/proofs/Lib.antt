@@ -1,3 +1,13 @@
+pub mod Bounds
+pub mod Answered
+pub mod Carried
+pub mod Programs
+pub mod Instances
+pub mod Meanings
+pub mod Moments
+pub mod Definitions
+pub mod Meant
+pub mod Promised
 mod AcceptedSources
 mod AssignedEntries
 mod ChosenElements

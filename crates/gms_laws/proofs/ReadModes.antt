@@ -1,12 +1,12 @@
 -- What the rules of modes say of tokens.
 use Rattle.std.proofs.Common.{◌≡◌, ℕ, suc, ◌+◌, ◌-◌, ◌==◌, if◌then◌else◌, true, false, List, take, drop, length, Option, Some, None, Ok, refl, ap, subst, arith}
 use Rattle.std.proofs.Math.Dec.{eqb-suc-zero}
-use Rattle.gms_lines.specs.declared.kind.Sym.{Sym}
-use Rattle.gms_lines.specs.declared.kind.Sym.TheVariants.{EqE, EqL, EqG, EqN, Power, DotDot, LessEq, GreaterEq, NotEq, PlusPlus, MinusMinus, Plus, Minus, Star, Slash, Equals, Less, Greater, LeftParen, RightParen, Comma, Semicolon, Dot, Dollar}
-use Rattle.gms_lines.specs.declared.kind.Kind.TheVariants.{Word, Label, Number, Text, Symbol, Break, TableLine, End}
-use Rattle.gms_lines.specs.declared.lexeme.Lexeme.{Lexeme}
-use Rattle.gms_lines.specs.declared.lexeme.Piece.{Piece}
-use Rattle.gms_lines.specs.declared.lexeme.Piece.TheVariants.{Gap, LineEnd, Remark, Token}
+use Rattle.gms_grammar.specs.declared.kind.Sym.{Sym}
+use Rattle.gms_grammar.specs.declared.kind.Sym.TheVariants.{EqE, EqL, EqG, EqN, Power, DotDot, LessEq, GreaterEq, NotEq, PlusPlus, MinusMinus, Plus, Minus, Star, Slash, Equals, Less, Greater, LeftParen, RightParen, Comma, Semicolon, Dot, Dollar}
+use Rattle.gms_grammar.specs.declared.kind.Kind.TheVariants.{Word, Label, Number, Text, Symbol, Break, TableLine, End}
+use Rattle.gms_grammar.specs.declared.lexeme.Lexeme.{Lexeme}
+use Rattle.gms_grammar.specs.declared.lexeme.Piece.{Piece}
+use Rattle.gms_grammar.specs.declared.lexeme.Piece.TheVariants.{Gap, LineEnd, Remark, Token}
 use Rattle.gms_lex.specs.declared.keyword.Shape.{Shape}
 use Rattle.gms_lex.specs.declared.keyword.Shape.TheVariants.{Set, Parameter, Scalar, Model}
 use Rattle.gms_lex.specs.declared.keyword.Keyword.{Keyword}

@@ -1,12 +1,12 @@
 -- The tokens of a source, computed piece by piece.
 use Rattle.std.proofs.Common.{◌≡◌, ℕ, zero, suc, Bool, true, false, List, [], ◌∷◌, ◌++◌, length, take, drop, Option, Some, None, Ok, Err, refl, ap, subst}
 use Rattle.std.specs.Prelude.{is_none}
-use Rattle.gms_lines.specs.declared.fault.ByteFault.{ByteFault}
-use Rattle.gms_lines.specs.Lines.{lines, code_text}
-use Rattle.gms_lines.specs.InnerLineSearch.{first_in_lines}
-use Rattle.gms_lines.proofs.FirstLemmas.{source-first}
-use Rattle.gms_lines.specs.declared.lexeme.Lexeme.{Lexeme}
-use Rattle.gms_lines.specs.Shapes.{Read}
+use Rattle.gms_grammar.specs.declared.fault.ByteFault.{ByteFault}
+use Rattle.gms_grammar.specs.Lines.{lines, code_text}
+use Rattle.gms_grammar.specs.InnerLineSearch.{first_in_lines}
+use Rattle.gms_grammar.proofs.FirstLemmas.{source-first}
+use Rattle.gms_grammar.specs.declared.lexeme.Lexeme.{Lexeme}
+use Rattle.gms_grammar.specs.Shapes.{Read}
 use Rattle.gms_lex.specs.declared.mode.Mode.{Mode}
 use Rattle.gms_lex.specs.declared.mode.Mode.TheVariants.{Code}
 use Rattle.gms_lex.specs.declared.token.Token.{Token}

@@ -1,7 +1,7 @@
 -- The tests of a source: of its pieces, of the derivation of its tokens, and of its statements.
 use Rattle.std.proofs.Common.{ℕ, zero, suc, ◌&&◌, Bool, true, false, List, length, Option, Some, None}
-use Rattle.gms_lines.specs.Lines.{code_text}
-use Rattle.gms_lines.specs.declared.lexeme.Lexeme.{Lexeme}
+use Rattle.gms_grammar.specs.Lines.{code_text}
+use Rattle.gms_grammar.specs.declared.lexeme.Lexeme.{Lexeme}
 use Rattle.gms_lex.specs.declared.mode.Mode.TheVariants.{Code}
 use Rattle.gms_grammar.specs.Grammar.{the}
 use Rattle.gms_grammar.specs.GamsGrammar.{Program, productions}

@@ -5,9 +5,9 @@ use Rattle.std.proofs.Common.{◌≡◌, ℕ, ◌+◌, ◌-◌, ◌&&◌, ◌||�
 use Rattle.std.specs.Prelude.{if◌then◌else◌}
 use Rattle.std.proofs.lemmas.List.{drop-drop}
 use Rattle.gms_labels.specs.Labels.{entered, most_labels}
-use Rattle.gms_lines.specs.declared.lexeme.Lexeme.{Lexeme}
-use Rattle.gms_lines.specs.declared.lexeme.Piece.{Piece}
-use Rattle.gms_lines.specs.declared.lexeme.Piece.TheVariants as piece
+use Rattle.gms_grammar.specs.declared.lexeme.Lexeme.{Lexeme}
+use Rattle.gms_grammar.specs.declared.lexeme.Piece.{Piece}
+use Rattle.gms_grammar.specs.declared.lexeme.Piece.TheVariants as piece
 use Rattle.gms_lex.specs.declared.token.Token.{Token}
 use Rattle.gms_lex.specs.Places.{place_of_byte}
 use Rattle.gms_lex.specs.TokenTexts.{token_text, unquoted}

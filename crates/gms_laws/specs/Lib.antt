@@ -1,3 +1,5 @@
+pub mod Plans
+pub mod Moments
 pub mod Accepted
 pub mod Assignments
 pub mod Domains

@@ -1,11 +1,11 @@
 -- Where in a statement tokens are, and which tokens end an item or an element (GAMS User's Guide,
 -- "GAMS Programs", data declarations and lists).
 use Rattle.std.specs.Prelude.{ℕ, suc}
-use Rattle.gms_lines.specs.declared.kind.Sym.{Sym}
-use Rattle.gms_lines.specs.declared.kind.Sym.TheVariants.{RightParen, Comma, Semicolon, Dot, DotDot, Star, Power}
-use Rattle.gms_lines.specs.declared.kind.Kind.TheVariants.{Label, Symbol, Break}
-use Rattle.gms_lines.specs.declared.lexeme.Piece.{Piece}
-use Rattle.gms_lines.specs.declared.lexeme.Piece.TheVariants.{Token}
+use Rattle.gms_grammar.specs.declared.kind.Sym.{Sym}
+use Rattle.gms_grammar.specs.declared.kind.Sym.TheVariants.{RightParen, Comma, Semicolon, Dot, DotDot, Star, Power}
+use Rattle.gms_grammar.specs.declared.kind.Kind.TheVariants.{Label, Symbol, Break}
+use Rattle.gms_grammar.specs.declared.lexeme.Piece.{Piece}
+use Rattle.gms_grammar.specs.declared.lexeme.Piece.TheVariants.{Token}
 use Rattle.gms_lex.specs.declared.keyword.Shape.{Shape}
 use Rattle.gms_lex.specs.declared.keyword.Shape.TheVariants.{Set, Parameter, Scalar, Model}
 use Rattle.gms_lex.specs.declared.mode.Stage.{Stage}

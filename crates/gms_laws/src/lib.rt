@@ -1,5 +1,5 @@
-//! Laws of tokens, expressions, tables, domains, of the places of names and errors, of assignments,
-//! and of generated models, in the subject's words. No crate uses it.
+//! Layer 7, outside. Laws in the subject's words: that what the answers of a run say to a planner
+//! is true; of tokens, expressions, tables, domains, and of the places of names and errors.
 #![tactic(auto)]
 
 mod assignments;
@@ -8,6 +8,7 @@ mod generated;
 mod modes;
 mod occurrences;
 mod parts;
+mod plans;
 mod tables;
 
 pub use assignments::assigned_entries;
@@ -16,4 +17,5 @@ pub use generated::generated_models;
 pub use modes::{mode_laws, place_laws};
 pub use occurrences::{error_places, occurrence_laws};
 pub use parts::part_laws;
+pub use plans::plan_laws;
 pub use tables::table_laws;

@@ -1,11 +1,11 @@
 //! Laws of modes: which tokens are read where.
 ghost use Rattle.std.specs.Prelude.{◌≡◌, ℕ, suc, ◌+◌, true, false, List, Ok, Some, None, take, drop};
-ghost use Rattle.gms_lines.specs.declared.kind.Sym.{Sym};
-ghost use Rattle.gms_lines.specs.declared.kind.Sym.TheVariants.{LeftParen, RightParen, Comma, Semicolon, Slash};
-ghost use Rattle.gms_lines.specs.declared.kind.Kind.TheVariants.{Word, Label, Number, Symbol, TableLine};
-ghost use Rattle.gms_lines.specs.declared.lexeme.Lexeme.{Lexeme};
-ghost use Rattle.gms_lines.specs.declared.lexeme.Piece.{Piece};
-ghost use Rattle.gms_lines.specs.declared.lexeme.Piece.TheVariants.{LineEnd, Remark, Token};
+ghost use Rattle.gms_grammar.specs.declared.kind.Sym.{Sym};
+ghost use Rattle.gms_grammar.specs.declared.kind.Sym.TheVariants.{LeftParen, RightParen, Comma, Semicolon, Slash};
+ghost use Rattle.gms_grammar.specs.declared.kind.Kind.TheVariants.{Word, Label, Number, Symbol, TableLine};
+ghost use Rattle.gms_grammar.specs.declared.lexeme.Lexeme.{Lexeme};
+ghost use Rattle.gms_grammar.specs.declared.lexeme.Piece.{Piece};
+ghost use Rattle.gms_grammar.specs.declared.lexeme.Piece.TheVariants.{LineEnd, Remark, Token};
 ghost use Rattle.gms_lex.specs.declared.keyword.Shape.{Shape};
 ghost use Rattle.gms_lex.specs.declared.keyword.Shape.TheVariants.{Parameter};
 ghost use Rattle.gms_lex.specs.declared.keyword.Keyword.TheVariants.{Declarer, Table};

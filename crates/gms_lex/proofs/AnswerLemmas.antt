@@ -1,14 +1,14 @@
 -- What two passes over a source answer: its tokens, or its first fault.
 use Rattle.std.proofs.Common.{◌≡◌, ◌⊎◌, inl, inr, ℕ, ◌+◌, ◌≤◌, ◌==◌, Bool, true, false, if◌then◌else◌, List, [], ◌∷◌, ◌++◌, length, Option, Some, None, Result, Ok, Err, refl, sym, ap, ◌∙◌, subst, arith}
 use Rattle.gms_labels.specs.declared.place.Place.{Place}
-use Rattle.gms_lines.specs.declared.fault.LexError.{LexError}
-use Rattle.gms_lines.specs.declared.fault.LexError.TheVariants.{BadByte, OpenQuote, OpenText, LongLabel, LongLine, UnknownControl}
-use Rattle.gms_lines.specs.declared.fault.ByteFault.{ByteFault}
-use Rattle.gms_lines.specs.Errors.{lex_error_code, IsBefore, IsFirstFault}
-use Rattle.gms_lines.specs.Lines.{lines, code_text}
-use Rattle.gms_lines.specs.LineFaults.{IsLineFault}
-use Rattle.gms_lines.specs.InnerLineSearch.{first_in_lines}
-use Rattle.gms_lines.proofs.FirstLemmas.{source-first, fault_within}
+use Rattle.gms_grammar.specs.declared.fault.LexError.{LexError}
+use Rattle.gms_grammar.specs.declared.fault.LexError.TheVariants.{BadByte, OpenQuote, OpenText, LongLabel, LongLine, UnknownControl}
+use Rattle.gms_grammar.specs.declared.fault.ByteFault.{ByteFault}
+use Rattle.gms_grammar.specs.Errors.{lex_error_code, IsBefore, IsFirstFault}
+use Rattle.gms_grammar.specs.Lines.{lines, code_text}
+use Rattle.gms_grammar.specs.LineFaults.{IsLineFault}
+use Rattle.gms_grammar.specs.InnerLineSearch.{first_in_lines}
+use Rattle.gms_grammar.proofs.FirstLemmas.{source-first, fault_within}
 use Rattle.gms_lex.specs.declared.mode.Mode.TheVariants.{Code}
 use Rattle.gms_lex.specs.declared.token.Token.{Token}
 use Rattle.gms_lex.specs.declared.fault.LexFault.{LexFault}

@@ -7,13 +7,13 @@ use Rattle.std.proofs.lemmas.List.{length-drop, drop-drop}
 use Rattle.std.proofs.lemmas.List.Folds.{concat-append}
 use Rattle.std.proofs.Math.Seq.{take-add}
 use Rattle.std.specs.List.{prefix_len, list_all, concat, AllByRecursion}
-use Rattle.gms_lines.specs.Lines.{begins, is_blank, is_line_end, content, code_text}
-use Rattle.gms_lines.specs.declared.kind.Kind.TheVariants.{Word, Label, Number, Text, Symbol, Break, TableLine, End}
-use Rattle.gms_lines.specs.declared.lexeme.Piece.{Piece}
-use Rattle.gms_lines.specs.declared.lexeme.Piece.TheVariants.{Gap, LineEnd, Remark, Token}
-use Rattle.gms_lines.specs.declared.lexeme.Lexeme.{Lexeme}
-use Rattle.gms_lines.specs.Shapes.{Read, lexeme, code_token}
-use Rattle.gms_lines.specs.TableLines.{table_bytes, table_line}
+use Rattle.gms_grammar.specs.Lines.{begins, is_blank, is_line_end, content, code_text}
+use Rattle.gms_grammar.specs.declared.kind.Kind.TheVariants.{Word, Label, Number, Text, Symbol, Break, TableLine, End}
+use Rattle.gms_grammar.specs.declared.lexeme.Piece.{Piece}
+use Rattle.gms_grammar.specs.declared.lexeme.Piece.TheVariants.{Gap, LineEnd, Remark, Token}
+use Rattle.gms_grammar.specs.declared.lexeme.Lexeme.{Lexeme}
+use Rattle.gms_grammar.specs.Shapes.{Read, lexeme, code_token}
+use Rattle.gms_grammar.specs.TableLines.{table_bytes, table_line}
 use Rattle.gms_lex.specs.declared.mode.Mode.{Mode}
 use Rattle.gms_lex.specs.declared.mode.Mode.TheVariants.{Code, TableLines}
 use Rattle.gms_lex.specs.declared.mode.LineEnds.{LineEnds}

@@ -1,9 +1,9 @@
 -- The earlier of the first faults of two kinds is the first of both.
 use Rattle.std.proofs.Common.{◌≡◌, ◌⊎◌, inl, inr, true, false, nat_lt, if◌then◌else◌, Option, Some, None, sym, ap, subst, arith}
 use Rattle.std.proofs.lemmas.Bool.Decides.{nat_tests}
-use Rattle.gms_lines.specs.declared.fault.ByteFault.{ByteFault}
-use Rattle.gms_lines.specs.Errors.{IsBefore, IsFirstFault}
-use Rattle.gms_lines.proofs.LineLemmas.{true_or_false}
+use Rattle.gms_grammar.specs.declared.fault.ByteFault.{ByteFault}
+use Rattle.gms_grammar.specs.Errors.{IsBefore, IsFirstFault}
+use Rattle.gms_grammar.proofs.LineLemmas.{true_or_false}
 use Rattle.gms_lex.specs.InnerReadings.{is_before, earlier}
 
 -- the test says which fault comes before the other

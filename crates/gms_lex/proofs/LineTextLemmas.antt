@@ -4,11 +4,11 @@ use Rattle.std.proofs.lemmas.Bool.Decides.{nat_tests}
 use Rattle.std.proofs.lemmas.List.{length-map, take-append-le, drop-append-le, get_or-take, get_or-drop, get_or_append_left, length-drop}
 use Rattle.std.proofs.Math.Seq.{drop-append-add}
 use Rattle.std.specs.Str.{IsAscii}
-use Rattle.gms_lines.specs.declared.line.Class.{Class}
-use Rattle.gms_lines.specs.declared.line.Class.TheVariants.{Comment, Control, Code}
-use Rattle.gms_lines.specs.Lines.{put_first, lines, blanked, read_as, class_of, inside_after, code_of, code_text}
-use Rattle.gms_lines.proofs.LineLemmas.{true_or_false, below_or}
-use Rattle.gms_lines.proofs.FirstLemmas.{length-read_as}
+use Rattle.gms_grammar.specs.declared.line.Class.{Class}
+use Rattle.gms_grammar.specs.declared.line.Class.TheVariants.{Comment, Control, Code}
+use Rattle.gms_grammar.specs.Lines.{put_first, lines, blanked, read_as, class_of, inside_after, code_of, code_text}
+use Rattle.gms_grammar.proofs.LineLemmas.{true_or_false, below_or}
+use Rattle.gms_grammar.proofs.FirstLemmas.{length-read_as}
 
 -- a byte that a line without tokens never has as blank
 abbrev pub IsSolidByte : ℕ → Type 0

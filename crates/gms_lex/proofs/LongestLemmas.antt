@@ -6,20 +6,20 @@ use Rattle.std.proofs.lemmas.List.{length-take-le}
 use Rattle.std.proofs.lemmas.List.Sums.{prefix_len-le-length}
 use Rattle.std.specs.List.{prefix_len, list_all}
 use Rattle.std.specs.Char.{is_ascii_alphabetic, is_ascii_alphanumeric, is_ascii_digit}
-use Rattle.gms_lines.specs.Lines.{begins, before, is_blank, is_line_end, content}
-use Rattle.gms_lines.proofs.LineLemmas.{true_or_false}
-use Rattle.gms_lines.specs.declared.kind.Kind.{Kind}
-use Rattle.gms_lines.specs.declared.kind.Kind.TheVariants.{Word, Label, Number, Text, Symbol, Break, TableLine, End}
-use Rattle.gms_lines.specs.declared.kind.Sym.{Sym}
-use Rattle.gms_lines.specs.declared.lexeme.Piece.{Piece}
-use Rattle.gms_lines.specs.declared.lexeme.Piece.TheVariants.{Gap, LineEnd, Remark, Token}
-use Rattle.gms_lines.specs.declared.lexeme.Lexeme.{Lexeme}
-use Rattle.gms_lines.specs.declared.lexeme.Misread.{Misread}
-use Rattle.gms_lines.specs.Bytes.{is_name_byte, is_label_byte, is_quote, is_ascii}
-use Rattle.gms_lines.specs.Numbers.{begins_dot, begins_number, number_length}
-use Rattle.gms_lines.specs.Shapes.{Read, longest_label, bounded, symbol, code_token, label_token, remark}
-use Rattle.gms_lines.specs.TableLines.{table_bytes, table_line}
-use Rattle.gms_lines.proofs.WithinLemmas.{run_within, table_bytes_le}
+use Rattle.gms_grammar.specs.Lines.{begins, before, is_blank, is_line_end, content}
+use Rattle.gms_grammar.proofs.LineLemmas.{true_or_false}
+use Rattle.gms_grammar.specs.declared.kind.Kind.{Kind}
+use Rattle.gms_grammar.specs.declared.kind.Kind.TheVariants.{Word, Label, Number, Text, Symbol, Break, TableLine, End}
+use Rattle.gms_grammar.specs.declared.kind.Sym.{Sym}
+use Rattle.gms_grammar.specs.declared.lexeme.Piece.{Piece}
+use Rattle.gms_grammar.specs.declared.lexeme.Piece.TheVariants.{Gap, LineEnd, Remark, Token}
+use Rattle.gms_grammar.specs.declared.lexeme.Lexeme.{Lexeme}
+use Rattle.gms_grammar.specs.declared.lexeme.Misread.{Misread}
+use Rattle.gms_grammar.specs.Bytes.{is_name_byte, is_label_byte, is_quote, is_ascii}
+use Rattle.gms_grammar.specs.Numbers.{begins_dot, begins_number, number_length}
+use Rattle.gms_grammar.specs.Shapes.{Read, longest_label, bounded, symbol, code_token, label_token, remark}
+use Rattle.gms_grammar.specs.TableLines.{table_bytes, table_line}
+use Rattle.gms_grammar.proofs.WithinLemmas.{run_within, table_bytes_le}
 use Rattle.gms_lex.specs.declared.keyword.Shape.{Shape}
 use Rattle.gms_lex.specs.declared.keyword.Shape.TheVariants.{Set, Parameter, Scalar, Model}
 use Rattle.gms_lex.specs.declared.mode.Stage.{Stage}

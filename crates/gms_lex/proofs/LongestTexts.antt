@@ -8,17 +8,17 @@ use Rattle.std.proofs.lemmas.List.Sums.{prefix_len_stops}
 use Rattle.std.proofs.lemmas.List.Folds.{length-prefix_len}
 use Rattle.std.proofs.Math.Seq.{take-add, drop-append_seam}
 use Rattle.std.specs.List.{prefix_len, list_all}
-use Rattle.gms_lines.specs.Lines.{begins}
-use Rattle.gms_lines.specs.declared.kind.Kind.TheVariants.{Symbol}
-use Rattle.gms_lines.specs.declared.kind.Sym.{Sym}
-use Rattle.gms_lines.specs.declared.lexeme.Piece.{Piece}
-use Rattle.gms_lines.specs.declared.lexeme.Piece.TheVariants.{Remark, Token}
-use Rattle.gms_lines.specs.declared.lexeme.Lexeme.{Lexeme}
-use Rattle.gms_lines.specs.declared.lexeme.Misread.{Misread}
-use Rattle.gms_lines.specs.Bytes.{is_quote, is_text_byte, is_ascii}
-use Rattle.gms_lines.specs.Symbols.{written_symbol, symbols, begins_with_word, longest_symbol}
-use Rattle.gms_lines.specs.Shapes.{Read, longest_label, symbol_read, symbol, quoted_length, is_closed, is_label, quoted, remark}
-use Rattle.gms_lines.proofs.WithinLemmas.{closed_more}
+use Rattle.gms_grammar.specs.Lines.{begins}
+use Rattle.gms_grammar.specs.declared.kind.Kind.TheVariants.{Symbol}
+use Rattle.gms_grammar.specs.declared.kind.Sym.{Sym}
+use Rattle.gms_grammar.specs.declared.lexeme.Piece.{Piece}
+use Rattle.gms_grammar.specs.declared.lexeme.Piece.TheVariants.{Remark, Token}
+use Rattle.gms_grammar.specs.declared.lexeme.Lexeme.{Lexeme}
+use Rattle.gms_grammar.specs.declared.lexeme.Misread.{Misread}
+use Rattle.gms_grammar.specs.Bytes.{is_quote, is_text_byte, is_ascii}
+use Rattle.gms_grammar.specs.Symbols.{written_symbol, symbols, begins_with_word, longest_symbol}
+use Rattle.gms_grammar.specs.Shapes.{Read, longest_label, symbol_read, symbol, quoted_length, is_closed, is_label, quoted, remark}
+use Rattle.gms_grammar.proofs.WithinLemmas.{closed_more}
 use Rattle.gms_lex.specs.Spellings.{IsQuoted, IsUnquotedText, IsText, IsSymbol}
 use Rattle.gms_lex.specs.Longest.{IsUnlawful}
 use Rattle.gms_lex.proofs.PrefixLemmas.{not_both, prefix_most, prefix_all, run_over, run_stops, begins_take, begins_prefix}

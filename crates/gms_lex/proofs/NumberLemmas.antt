@@ -8,10 +8,10 @@ use Rattle.std.proofs.lemmas.List.Sums.{prefix_len-le-length}
 use Rattle.std.proofs.Math.Seq.{take-add, drop-append_seam}
 use Rattle.std.specs.List.{prefix_len, list_all}
 use Rattle.std.specs.Char.{is_ascii_digit}
-use Rattle.gms_lines.specs.Lines.{begins}
-use Rattle.gms_lines.proofs.LineLemmas.{true_or_false}
-use Rattle.gms_lines.specs.Numbers.{digit_count, begins_dot, begins_number, point_length, is_sign, sign_length, exponent_length, decimal_length, number_length}
-use Rattle.gms_lines.proofs.WithinLemmas.{run_within}
+use Rattle.gms_grammar.specs.Lines.{begins}
+use Rattle.gms_grammar.proofs.LineLemmas.{true_or_false}
+use Rattle.gms_grammar.specs.Numbers.{digit_count, begins_dot, begins_number, point_length, is_sign, sign_length, exponent_length, decimal_length, number_length}
+use Rattle.gms_grammar.proofs.WithinLemmas.{run_within}
 use Rattle.gms_lex.specs.Spellings.{AreSomeDigits, IsPoint, IsPower, IsExponentSpelling, IsNumberSpelling}
 use Rattle.gms_lex.proofs.LineTextLemmas.{length-take_most}
 use Rattle.gms_lex.proofs.PrefixLemmas.{not_both, prefix_all, run_over, run_stops, begins_append}

@@ -5,12 +5,12 @@ use Rattle.std.proofs.lemmas.Bool.Decides.{nat_tests}
 use Rattle.std.proofs.lemmas.List.{length-take-le}
 use Rattle.std.proofs.lemmas.List.Sums.{prefix_len-le-length}
 use Rattle.std.specs.List.{prefix_len}
-use Rattle.gms_lines.specs.Lines.{begins, before, content, is_blank, is_line_end}
-use Rattle.gms_lines.proofs.LineLemmas.{true_or_false, before-le-length, before_more}
-use Rattle.gms_lines.specs.declared.kind.Kind.TheVariants.{Label, Text}
-use Rattle.gms_lines.specs.Shapes.{IsWithinText}
-use Rattle.gms_lines.specs.TableLines.{table_bytes}
-use Rattle.gms_lines.proofs.WithinLemmas.{if_within, run_within, begins_some, table_bytes_le, symbol_within, code_token_within, label_token_within, remark_within, table_line_within}
+use Rattle.gms_grammar.specs.Lines.{begins, before, content, is_blank, is_line_end}
+use Rattle.gms_grammar.proofs.LineLemmas.{true_or_false, before-le-length, before_more}
+use Rattle.gms_grammar.specs.declared.kind.Kind.TheVariants.{Label, Text}
+use Rattle.gms_grammar.specs.Shapes.{IsWithinText}
+use Rattle.gms_grammar.specs.TableLines.{table_bytes}
+use Rattle.gms_grammar.proofs.WithinLemmas.{if_within, run_within, begins_some, table_bytes_le, symbol_within, code_token_within, label_token_within, remark_within, table_line_within}
 use Rattle.gms_lex.specs.declared.keyword.Shape.{Shape}
 use Rattle.gms_lex.specs.declared.keyword.Shape.TheVariants.{Set, Parameter, Scalar, Model}
 use Rattle.gms_lex.specs.declared.mode.Stage.{Stage}

@@ -4,8 +4,8 @@ use Rattle.std.proofs.lemmas.List.Sums.{fold-append}
 use Rattle.std.proofs.Math.Seq.{take-add}
 use Rattle.std.proofs.lemmas.List.{length-drop, length-take-le}
 use Rattle.gms_labels.specs.declared.place.Place.{Place}
-use Rattle.gms_lines.specs.Columns.{column_after}
-use Rattle.gms_lines.proofs.ColumnLemmas.{column_after-bounds}
+use Rattle.gms_grammar.specs.Columns.{column_after}
+use Rattle.gms_grammar.proofs.ColumnLemmas.{column_after-bounds}
 use Rattle.gms_lex.specs.Places.{IsEarlier, place_after, place_after_bytes, place_of_byte, source_start}
 
 -- the place of a byte further on

@@ -3,14 +3,14 @@ use Rattle.std.proofs.Common.{◌≡◌, inl, ℕ, zero, suc, ◌+◌, ◌-◌, 
 use Rattle.std.proofs.lemmas.List.{length-drop, drop-drop}
 use Rattle.std.proofs.lemmas.List.Elements.{All-append}
 use Rattle.std.specs.Str.{IsAscii}
-use Rattle.gms_lines.specs.declared.fault.ByteFault.{ByteFault}
-use Rattle.gms_lines.specs.Lines.{code_text}
-use Rattle.gms_lines.specs.LineFaults.{IsLineFault}
-use Rattle.gms_lines.specs.declared.kind.Kind.{Kind}
-use Rattle.gms_lines.specs.declared.kind.Kind.TheVariants.{Word, Label, Number, Text, Symbol, Break, TableLine, End}
-use Rattle.gms_lines.specs.declared.lexeme.Piece.{Piece}
-use Rattle.gms_lines.specs.declared.lexeme.Piece.TheVariants.{Gap, LineEnd, Remark, Token}
-use Rattle.gms_lines.specs.declared.lexeme.Lexeme.{Lexeme}
+use Rattle.gms_grammar.specs.declared.fault.ByteFault.{ByteFault}
+use Rattle.gms_grammar.specs.Lines.{code_text}
+use Rattle.gms_grammar.specs.LineFaults.{IsLineFault}
+use Rattle.gms_grammar.specs.declared.kind.Kind.{Kind}
+use Rattle.gms_grammar.specs.declared.kind.Kind.TheVariants.{Word, Label, Number, Text, Symbol, Break, TableLine, End}
+use Rattle.gms_grammar.specs.declared.lexeme.Piece.{Piece}
+use Rattle.gms_grammar.specs.declared.lexeme.Piece.TheVariants.{Gap, LineEnd, Remark, Token}
+use Rattle.gms_grammar.specs.declared.lexeme.Lexeme.{Lexeme}
 use Rattle.gms_lex.specs.declared.mode.Mode.{Mode}
 use Rattle.gms_lex.specs.declared.mode.Mode.TheVariants.{Code}
 use Rattle.gms_lex.specs.declared.token.Token.{Token as CodeToken}

@@ -2,8 +2,8 @@
 use Rattle.std.proofs.lemmas.Bool.{and_from, and_parts}
 use Rattle.std.proofs.Common.{◌≡◌, inl, inr, ℕ, zero, suc, ◌+◌, ◌<◌, ◌≤◌, ◌&&◌, Bool, true, false, cond, List, [], ◌∷◌, ◌++◌, length, take, refl, sym, ap, subst, arith}
 use Rattle.std.specs.List.{prefix_len, list_all}
-use Rattle.gms_lines.specs.Lines.{begins}
-use Rattle.gms_lines.proofs.LineLemmas.{true_or_false}
+use Rattle.gms_grammar.specs.Lines.{begins}
+use Rattle.gms_grammar.proofs.LineLemmas.{true_or_false}
 
 pub not_both : {A : Type 0} (b : Bool) → b ≡ true → b ≡ false → A
 not_both true h g = absurd (cc)

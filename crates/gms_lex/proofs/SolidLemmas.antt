@@ -7,19 +7,19 @@ use Rattle.std.proofs.lemmas.List.Sums.{prefix_len-le-length, prefix_len_passes,
 use Rattle.std.specs.List.{prefix_len}
 use Rattle.std.specs.Str.{IsAscii}
 use Rattle.std.specs.Char.{is_ascii_alphabetic, is_ascii_alphanumeric}
-use Rattle.gms_lines.specs.Lines.{begins, before, is_blank, is_line_end, content}
-use Rattle.gms_lines.proofs.LineLemmas.{below_or, before-le-length}
-use Rattle.gms_lines.specs.declared.kind.Kind.{Kind}
-use Rattle.gms_lines.specs.declared.kind.Kind.TheVariants.{Word, Label, Text, TableLine}
-use Rattle.gms_lines.specs.declared.kind.Sym.{Sym}
-use Rattle.gms_lines.specs.declared.lexeme.Piece.{Piece}
-use Rattle.gms_lines.specs.declared.lexeme.Piece.TheVariants.{Remark, Token}
-use Rattle.gms_lines.specs.Bytes.{is_name_byte, is_label_byte, is_quote, is_text_byte, is_ascii}
-use Rattle.gms_lines.specs.Numbers.{begins_number}
-use Rattle.gms_lines.specs.Symbols.{longest_symbol}
-use Rattle.gms_lines.specs.Shapes.{Read, longest_label, bounded, symbol_read, symbol, quoted_length, is_closed, quoted, code_token, label_token, remark}
-use Rattle.gms_lines.specs.TableLines.{table_bytes}
-use Rattle.gms_lines.proofs.WithinLemmas.{run_within, closed_more, table_bytes_le}
+use Rattle.gms_grammar.specs.Lines.{begins, before, is_blank, is_line_end, content}
+use Rattle.gms_grammar.proofs.LineLemmas.{below_or, before-le-length}
+use Rattle.gms_grammar.specs.declared.kind.Kind.{Kind}
+use Rattle.gms_grammar.specs.declared.kind.Kind.TheVariants.{Word, Label, Text, TableLine}
+use Rattle.gms_grammar.specs.declared.kind.Sym.{Sym}
+use Rattle.gms_grammar.specs.declared.lexeme.Piece.{Piece}
+use Rattle.gms_grammar.specs.declared.lexeme.Piece.TheVariants.{Remark, Token}
+use Rattle.gms_grammar.specs.Bytes.{is_name_byte, is_label_byte, is_quote, is_text_byte, is_ascii}
+use Rattle.gms_grammar.specs.Numbers.{begins_number}
+use Rattle.gms_grammar.specs.Symbols.{longest_symbol}
+use Rattle.gms_grammar.specs.Shapes.{Read, longest_label, bounded, symbol_read, symbol, quoted_length, is_closed, quoted, code_token, label_token, remark}
+use Rattle.gms_grammar.specs.TableLines.{table_bytes}
+use Rattle.gms_grammar.proofs.WithinLemmas.{run_within, closed_more, table_bytes_le}
 use Rattle.gms_lex.specs.declared.keyword.Shape.{Shape}
 use Rattle.gms_lex.specs.declared.keyword.Shape.TheVariants.{Set, Parameter, Scalar, Model}
 use Rattle.gms_lex.specs.declared.mode.Stage.{Stage}

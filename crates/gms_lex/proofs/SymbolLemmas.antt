@@ -5,12 +5,12 @@ use Rattle.std.proofs.lemmas.Bool.Decides.{nat_tests}
 use Rattle.std.proofs.lemmas.List.{length-take-le}
 use Rattle.std.specs.Char.{is_ascii_alphanumeric, is_ascii_digit, to_ascii_lowercase}
 use Rattle.std.specs.Str.{str_eq_ignore_ascii_case}
-use Rattle.gms_lines.specs.Lines.{begins}
-use Rattle.gms_lines.proofs.LineLemmas.{true_or_false}
-use Rattle.gms_lines.specs.declared.kind.Sym.{Sym}
-use Rattle.gms_lines.specs.declared.kind.Sym.TheVariants.{EqE, EqL, EqG, EqN, Power, DotDot, LessEq, GreaterEq, NotEq, PlusPlus, MinusMinus, Plus, Minus, Star, Slash, Equals, Less, Greater, LeftParen, RightParen, Comma, Semicolon, Dot, Dollar}
-use Rattle.gms_lines.specs.Bytes.{is_quote}
-use Rattle.gms_lines.specs.Symbols.{written_symbol, symbols, begins_with_word}
+use Rattle.gms_grammar.specs.Lines.{begins}
+use Rattle.gms_grammar.proofs.LineLemmas.{true_or_false}
+use Rattle.gms_grammar.specs.declared.kind.Sym.{Sym}
+use Rattle.gms_grammar.specs.declared.kind.Sym.TheVariants.{EqE, EqL, EqG, EqN, Power, DotDot, LessEq, GreaterEq, NotEq, PlusPlus, MinusMinus, Plus, Minus, Star, Slash, Equals, Less, Greater, LeftParen, RightParen, Comma, Semicolon, Dot, Dollar}
+use Rattle.gms_grammar.specs.Bytes.{is_quote}
+use Rattle.gms_grammar.specs.Symbols.{written_symbol, symbols, begins_with_word}
 use Rattle.gms_lex.specs.Spellings.{IsSymbol}
 use Rattle.gms_lex.proofs.PrefixLemmas.{not_both}
 

@@ -3,14 +3,14 @@ use Rattle.std.proofs.Common.{◌≡◌, ◌⊎◌, inl, inr, ℕ, zero, suc, �
 use Rattle.std.proofs.lemmas.Bool.Decides.{nat_tests}
 use Rattle.std.proofs.lemmas.List.{get_or-take, get_or-drop, get_or_append_left, length-drop, drop-drop, length-take-le}
 use Rattle.std.specs.Str.{IsAscii}
-use Rattle.gms_lines.specs.declared.fault.ByteFault.{ByteFault}
-use Rattle.gms_lines.specs.declared.fault.LexError.TheVariants.{BadByte, LongLine}
-use Rattle.gms_lines.specs.declared.line.Class.{Class}
-use Rattle.gms_lines.specs.declared.line.Class.TheVariants.{Comment, Control, Code}
-use Rattle.gms_lines.specs.Lines.{put_first, lines, is_blank, is_line_end, before, content, blanked, read_as, class_of, inside_after, code_of, code_text}
-use Rattle.gms_lines.specs.LineFaults.{longest_line, is_control_byte, is_bad, IsInLines, IsLineFault}
-use Rattle.gms_lines.proofs.LineLemmas.{true_or_false, below_or, before_stops, before_more, before-le-length}
-use Rattle.gms_lines.proofs.FirstLemmas.{length-read_as}
+use Rattle.gms_grammar.specs.declared.fault.ByteFault.{ByteFault}
+use Rattle.gms_grammar.specs.declared.fault.LexError.TheVariants.{BadByte, LongLine}
+use Rattle.gms_grammar.specs.declared.line.Class.{Class}
+use Rattle.gms_grammar.specs.declared.line.Class.TheVariants.{Comment, Control, Code}
+use Rattle.gms_grammar.specs.Lines.{put_first, lines, is_blank, is_line_end, before, content, blanked, read_as, class_of, inside_after, code_of, code_text}
+use Rattle.gms_grammar.specs.LineFaults.{longest_line, is_control_byte, is_bad, IsInLines, IsLineFault}
+use Rattle.gms_grammar.proofs.LineLemmas.{true_or_false, below_or, before_stops, before_more, before-le-length}
+use Rattle.gms_grammar.proofs.FirstLemmas.{length-read_as}
 use Rattle.gms_lex.proofs.LineTextLemmas.{HasFeed, AreEnded, lines-ended, joined, joined-lines, byte_blanked, on_line, after_line}
 
 -- the first n bytes of a text, all ASCII, come before its first line end, and one of them is not

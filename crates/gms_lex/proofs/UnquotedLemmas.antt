@@ -2,8 +2,8 @@
 use Rattle.std.proofs.Common.{◌≡◌, ℕ, suc, ◌+◌, ◌-◌, ◌<◌, ◌≤◌, Bool, true, false, cond, List, [], ◌∷◌, length, take, refl, ap, ◌∙◌, arith, length-take}
 use Rattle.std.proofs.lemmas.Str.{IsAscii-take, IsAscii-drop}
 use Rattle.std.specs.Str.{IsAscii}
-use Rattle.gms_lines.specs.Lines.{begins}
-use Rattle.gms_lines.specs.Bytes.{is_quote}
+use Rattle.gms_grammar.specs.Lines.{begins}
+use Rattle.gms_grammar.specs.Bytes.{is_quote}
 use Rattle.gms_lex.specs.TokenTexts.{unquoted}
 
 -- they are no longer

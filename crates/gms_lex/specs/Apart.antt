@@ -2,10 +2,10 @@
 -- "GAMS Programs", data declarations and lists).
 use Rattle.std.specs.Prelude.{◌≡◌, ◌⊎◌, ℕ, ◌-◌, ◌≤◌, Bool, true, not, ◌||◌, ◌==◌, List, [], ◌∷◌, take, drop}
 use Rattle.std.specs.List.{list_all, concat, AllByRecursion}
-use Rattle.gms_lines.specs.Lines.{begins, is_blank, is_line_end}
-use Rattle.gms_lines.specs.declared.kind.Kind.TheVariants.{Break}
-use Rattle.gms_lines.specs.declared.lexeme.Piece.TheVariants as piece
-use Rattle.gms_lines.specs.declared.lexeme.Lexeme.{Lexeme}
+use Rattle.gms_grammar.specs.Lines.{begins, is_blank, is_line_end}
+use Rattle.gms_grammar.specs.declared.kind.Kind.TheVariants.{Break}
+use Rattle.gms_grammar.specs.declared.lexeme.Piece.TheVariants as piece
+use Rattle.gms_grammar.specs.declared.lexeme.Lexeme.{Lexeme}
 use Rattle.gms_lex.specs.declared.mode.Mode.{Mode}
 use Rattle.gms_lex.specs.declared.mode.LineEnds.{LineEnds}
 use Rattle.gms_lex.specs.declared.mode.LineEnds.TheVariants.{Skipped, EndItem, EndElement}

@@ -2,8 +2,8 @@
 -- Programs").
 use Rattle.std.specs.Prelude.{ℕ, Bool, not, ◌&&◌, List, take, drop, Option, option_map, is_some}
 use Rattle.std.specs.List.{prefix_len}
-use Rattle.gms_lines.specs.Bytes.{is_label_byte}
-use Rattle.gms_lines.specs.Numbers.{begins_dot}
+use Rattle.gms_grammar.specs.Bytes.{is_label_byte}
+use Rattle.gms_grammar.specs.Numbers.{begins_dot}
 use Rattle.gms_grammar.specs.declared.terminal.Terminal.{Terminal}
 use Rattle.gms_grammar.specs.declared.terminal.Terminal.TheVariants as terminal
 use Rattle.gms_grammar.specs.Keywords.{statement_words, kind_among}

@@ -1,17 +1,17 @@
 -- Which tokens and texts a text may begin with, in each mode, and which of them is the longest
 -- (GAMS User's Guide, "Language Items", "GAMS Programs", data declarations, lists and tables).
 use Rattle.std.specs.Prelude.{◌≡◌, ◌⊎◌, ℕ, zero, suc, ◌<◌, ◌≤◌, Bool, true, false, ◌||◌, ◌==◌, List, length, take, drop, get_or}
-use Rattle.gms_lines.specs.declared.fault.LexError.TheVariants.{BadByte, LongLabel}
-use Rattle.gms_lines.specs.Lines.{begins, content}
-use Rattle.gms_lines.specs.declared.kind.Kind.{Kind}
-use Rattle.gms_lines.specs.declared.kind.Kind.TheVariants.{Word, Label, Number, Text, Symbol, Break, TableLine}
-use Rattle.gms_lines.specs.declared.lexeme.Piece.{Piece}
-use Rattle.gms_lines.specs.declared.lexeme.Piece.TheVariants.{Gap, LineEnd, Remark, Token}
-use Rattle.gms_lines.specs.declared.lexeme.Lexeme.{Lexeme}
-use Rattle.gms_lines.specs.declared.lexeme.Misread.{Misread}
-use Rattle.gms_lines.specs.Numbers.{begins_dot}
-use Rattle.gms_lines.specs.Shapes.{longest_label}
-use Rattle.gms_lines.specs.TableLines.{table_bytes}
+use Rattle.gms_grammar.specs.declared.fault.LexError.TheVariants.{BadByte, LongLabel}
+use Rattle.gms_grammar.specs.Lines.{begins, content}
+use Rattle.gms_grammar.specs.declared.kind.Kind.{Kind}
+use Rattle.gms_grammar.specs.declared.kind.Kind.TheVariants.{Word, Label, Number, Text, Symbol, Break, TableLine}
+use Rattle.gms_grammar.specs.declared.lexeme.Piece.{Piece}
+use Rattle.gms_grammar.specs.declared.lexeme.Piece.TheVariants.{Gap, LineEnd, Remark, Token}
+use Rattle.gms_grammar.specs.declared.lexeme.Lexeme.{Lexeme}
+use Rattle.gms_grammar.specs.declared.lexeme.Misread.{Misread}
+use Rattle.gms_grammar.specs.Numbers.{begins_dot}
+use Rattle.gms_grammar.specs.Shapes.{longest_label}
+use Rattle.gms_grammar.specs.TableLines.{table_bytes}
 use Rattle.gms_lex.specs.declared.keyword.Shape.{Shape}
 use Rattle.gms_lex.specs.declared.keyword.Shape.TheVariants.{Set, Parameter, Scalar, Model}
 use Rattle.gms_lex.specs.declared.mode.Stage.{Stage}

@@ -1,12 +1,12 @@
 -- The mode of reading: the position of the next token in a statement, as the tokens before it
 -- determine it (GAMS User's Guide, "GAMS Programs", data declarations, lists and tables).
 use Rattle.std.specs.Prelude.{ℕ, ◌+◌, ◌-◌, ◌==◌, if◌then◌else◌, List, Option, Some, None}
-use Rattle.gms_lines.specs.declared.kind.Sym.{Sym}
-use Rattle.gms_lines.specs.declared.kind.Sym.TheVariants.{Power, DotDot, Star, Slash, LeftParen, RightParen, Comma, Semicolon, Dot}
-use Rattle.gms_lines.specs.declared.kind.Kind.{Kind}
-use Rattle.gms_lines.specs.declared.kind.Kind.TheVariants.{Word, Label, Number, Text, Symbol, Break, TableLine, End}
-use Rattle.gms_lines.specs.declared.lexeme.Piece.{Piece}
-use Rattle.gms_lines.specs.declared.lexeme.Piece.TheVariants.{Gap, LineEnd, Remark, Token}
+use Rattle.gms_grammar.specs.declared.kind.Sym.{Sym}
+use Rattle.gms_grammar.specs.declared.kind.Sym.TheVariants.{Power, DotDot, Star, Slash, LeftParen, RightParen, Comma, Semicolon, Dot}
+use Rattle.gms_grammar.specs.declared.kind.Kind.{Kind}
+use Rattle.gms_grammar.specs.declared.kind.Kind.TheVariants.{Word, Label, Number, Text, Symbol, Break, TableLine, End}
+use Rattle.gms_grammar.specs.declared.lexeme.Piece.{Piece}
+use Rattle.gms_grammar.specs.declared.lexeme.Piece.TheVariants.{Gap, LineEnd, Remark, Token}
 use Rattle.gms_lex.specs.declared.keyword.Shape.{Shape}
 use Rattle.gms_lex.specs.declared.keyword.Shape.TheVariants.{Set, Parameter, Scalar, Model}
 use Rattle.gms_lex.specs.declared.keyword.Keyword.{Keyword}

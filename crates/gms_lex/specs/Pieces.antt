@@ -3,12 +3,12 @@
 use Rattle.std.specs.Prelude.{ℕ, Bool, true, false, not, ◌&&◌, ◌||◌, ◌==◌, nat_lt, nat_le, if◌then◌else◌, List, [], ◌∷◌, drop}
 use Rattle.std.specs.List.{prefix_len}
 use Rattle.std.specs.Char.{is_ascii_digit}
-use Rattle.gms_lines.specs.Lines.{begins, before, content, is_blank, is_line_end}
-use Rattle.gms_lines.specs.declared.kind.Kind.TheVariants.{Label, Text, Break}
-use Rattle.gms_lines.specs.declared.lexeme.Piece.TheVariants.{Gap, LineEnd, Token}
-use Rattle.gms_lines.specs.Numbers.{begins_dot}
-use Rattle.gms_lines.specs.Shapes.{Read, lexeme, symbol, code_token, label_token, remark}
-use Rattle.gms_lines.specs.TableLines.{table_bytes, table_line}
+use Rattle.gms_grammar.specs.Lines.{begins, before, content, is_blank, is_line_end}
+use Rattle.gms_grammar.specs.declared.kind.Kind.TheVariants.{Label, Text, Break}
+use Rattle.gms_grammar.specs.declared.lexeme.Piece.TheVariants.{Gap, LineEnd, Token}
+use Rattle.gms_grammar.specs.Numbers.{begins_dot}
+use Rattle.gms_grammar.specs.Shapes.{Read, lexeme, symbol, code_token, label_token, remark}
+use Rattle.gms_grammar.specs.TableLines.{table_bytes, table_line}
 use Rattle.gms_lex.specs.declared.keyword.Shape.{Shape}
 use Rattle.gms_lex.specs.declared.keyword.Shape.TheVariants.{Set, Parameter, Scalar, Model}
 use Rattle.gms_lex.specs.declared.mode.Stage.{Stage}

@@ -1,7 +1,7 @@
 -- Places in a source: lines and columns, each counted from 1.
 use Rattle.std.specs.Prelude.{◌≡◌, ◌⊎◌, ℕ, ◌<◌, ◌+◌, ◌==◌, if◌then◌else◌, List, take, fold}
 use Rattle.gms_labels.specs.declared.place.Place.{Place}
-use Rattle.gms_lines.specs.Columns.{column_after}
+use Rattle.gms_grammar.specs.Columns.{column_after}
 
 -- the place where a source begins
 abbrev pub source_start : Place

@@ -3,11 +3,11 @@ use Rattle.std.specs.Prelude.{◌≡◌, ◌⊎◌, ℕ, ◌<◌, true, false, n
 use Rattle.std.specs.List.{list_all}
 use Rattle.std.specs.Char.{is_ascii_alphabetic, is_ascii_alphanumeric, is_ascii_digit}
 use Rattle.std.specs.Str.{str_eq_ignore_ascii_case}
-use Rattle.gms_lines.specs.Lines.{begins}
-use Rattle.gms_lines.specs.declared.kind.Sym.{Sym}
-use Rattle.gms_lines.specs.Bytes.{is_name_byte, is_label_byte, is_quote, is_text_byte}
-use Rattle.gms_lines.specs.Numbers.{begins_dot, is_sign}
-use Rattle.gms_lines.specs.Symbols.{written_symbol}
+use Rattle.gms_grammar.specs.Lines.{begins}
+use Rattle.gms_grammar.specs.declared.kind.Sym.{Sym}
+use Rattle.gms_grammar.specs.Bytes.{is_name_byte, is_label_byte, is_quote, is_text_byte}
+use Rattle.gms_grammar.specs.Numbers.{begins_dot, is_sign}
+use Rattle.gms_grammar.specs.Symbols.{written_symbol}
 
 -- a word: a letter, then letters, digits and `_`
 abbrev pub IsWord : List ℕ → Type 0

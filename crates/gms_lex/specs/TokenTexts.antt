@@ -1,12 +1,12 @@
 -- The texts of tokens: their places in the source, and how words and labels are spelled.
 use Rattle.std.specs.Prelude.{◌≡◌, ℕ, ◌-◌, ◌≤◌, true, if◌then◌else◌, List, [], ◌∷◌, length, take, drop}
 use Rattle.std.specs.Str.{IsAscii}
-use Rattle.gms_lines.specs.Lines.{begins}
-use Rattle.gms_lines.specs.LineFaults.{longest_line}
-use Rattle.gms_lines.specs.declared.kind.Kind.{Kind}
-use Rattle.gms_lines.specs.declared.kind.Kind.TheVariants.{Word, Label, Number, Text, Symbol, Break, TableLine, End}
-use Rattle.gms_lines.specs.Bytes.{is_quote}
-use Rattle.gms_lines.specs.Shapes.{longest_label}
+use Rattle.gms_grammar.specs.Lines.{begins}
+use Rattle.gms_grammar.specs.LineFaults.{longest_line}
+use Rattle.gms_grammar.specs.declared.kind.Kind.{Kind}
+use Rattle.gms_grammar.specs.declared.kind.Kind.TheVariants.{Word, Label, Number, Text, Symbol, Break, TableLine, End}
+use Rattle.gms_grammar.specs.Bytes.{is_quote}
+use Rattle.gms_grammar.specs.Shapes.{longest_label}
 use Rattle.gms_lex.specs.declared.token.Token.{Token}
 use Rattle.gms_lex.specs.Places.{place_of_byte}
 

@@ -3,7 +3,7 @@ ghost use Rattle.std.specs.Prelude.{◌≡◌};
 ghost use Rattle.gms_lex.specs.declared.fault.LexFaultOrMemory.TheVariants.{Memory};
 
 use gms_labels::Place;
-use gms_lines::LexError;
+use gms_grammar::LexError;
 use std::alloc::{AllocError, AllocFailed};
 use thiserror::Error;
 

@@ -2,8 +2,7 @@
 ghost use Rattle.std.specs.Prelude.{◌≡◌};
 ghost use Rattle.gms_lex.specs.Keywords.{keyword_as, keyword_of, begins_statement};
 
-use gms_grammar::{Terminal, statement_word};
-use gms_lines::label_length;
+use gms_grammar::{Terminal, label_length, statement_word};
 
 /// How the items of a declaration are written.
 #[derive(Clone, Copy)]

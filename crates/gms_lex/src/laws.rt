@@ -1,8 +1,8 @@
 //! Laws of tokens.
 ghost use Rattle.std.specs.Prelude.{◌≡◌, ◌<◌, ◌≤◌, ℕ, List, Result, Ok, Err, All, length, take, true};
-ghost use Rattle.gms_lines.specs.Lines.{code_text};
-ghost use Rattle.gms_lines.specs.declared.lexeme.Lexeme.{Lexeme};
-ghost use Rattle.gms_lines.specs.declared.lexeme.Misread.{Misread};
+ghost use Rattle.gms_grammar.specs.Lines.{code_text};
+ghost use Rattle.gms_grammar.specs.declared.lexeme.Lexeme.{Lexeme};
+ghost use Rattle.gms_grammar.specs.declared.lexeme.Misread.{Misread};
 ghost use Rattle.gms_lex.specs.declared.mode.Mode.{Mode};
 ghost use Rattle.gms_lex.specs.declared.token.Token.{Token};
 ghost use Rattle.gms_lex.specs.declared.fault.LexFault.{LexFault};

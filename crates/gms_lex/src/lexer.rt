@@ -10,7 +10,7 @@ use crate::piece::piece_at;
 use crate::place::{SOURCE_START, place_after_bytes, place_of};
 use crate::token::Token;
 use gms_labels::Place;
-use gms_lines::{ByteFault, Kind, Piece, code_text};
+use gms_grammar::{ByteFault, Kind, Piece, code_text};
 use std::alloc::{AllocError, Global};
 
 /// How many bytes a source may have.

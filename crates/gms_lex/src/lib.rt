@@ -13,7 +13,7 @@ mod place;
 mod token;
 
 pub use fault::{LexFault, LexFaultOrMemory};
-pub use gms_lines::{Kind, LexError, Sym};
+pub use gms_grammar::{Kind, LexError, Sym};
 pub use laws::{token_laws, token_texts};
 pub use lexer::{MOST_BYTES, lex};
 pub use token::{Token, unquoted};

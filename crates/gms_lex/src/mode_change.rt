@@ -5,7 +5,7 @@ ghost use Rattle.gms_lex.specs.InnerDepths.{depth_of};
 
 use crate::keyword::{Keyword, Shape, keyword_of};
 use crate::mode::{Mode, Stage};
-use gms_lines::{Kind, Piece, Sym};
+use gms_grammar::{Kind, Piece, Sym};
 
 /// Where a list begins, and where it continues after a comma.
 fn list_start(shape: Shape) -> Mode

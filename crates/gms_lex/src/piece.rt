@@ -1,13 +1,13 @@
 //! The first piece of a text, in each mode.
 ghost use Rattle.std.specs.Prelude.{◌≡◌, ◌≤◌, ◌<◌, length};
 ghost use Rattle.std.specs.List.{prefix_len};
-ghost use Rattle.gms_lines.specs.Lines.{begins, is_blank};
-ghost use Rattle.gms_lines.specs.Shapes.{IsWithinText};
+ghost use Rattle.gms_grammar.specs.Lines.{begins, is_blank};
+ghost use Rattle.gms_grammar.specs.Shapes.{IsWithinText};
 ghost use Rattle.gms_lex.specs.Pieces.{begins_other, space_length, line_end_length, ends_or_begins, passes, line_end, is_item_mark, piece_after_name, piece_after_domain, is_element_mark, begins_value_dot, element_tail, piece_after_label, in_list, token_read, table_piece_of, table_piece, plain_piece, piece_at};
 
 use crate::keyword::{Shape, begins_statement};
 use crate::mode::{LineEnds, Mode, Stage, line_ends, passes};
-use gms_lines::{
+use gms_grammar::{
     Kind, Lexeme, Misread, Piece, code_token, content_length, is_blank, is_line_end, label_token,
     read_symbol, remark, table_bytes, table_line,
 };

@@ -4,7 +4,7 @@ ghost use Rattle.gms_lex.specs.Places.{place_after, place_after_bytes, place_of_
 ghost use Rattle.gms_lex.specs.Tokens.{most_source_bytes};
 
 use gms_labels::Place;
-use gms_lines::column_after;
+use gms_grammar::column_after;
 
 /// Where a source begins.
 pub(crate) const SOURCE_START: Place = Place { line: 1, column: 1 };

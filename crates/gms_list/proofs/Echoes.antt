@@ -7,8 +7,8 @@ use Rattle.std.proofs.lemmas.List.{append_assoc, take_all}
 use Rattle.std.proofs.Padding.{padded_integral_right}
 use Rattle.std.specs.Fmt.{format_spec, styled_decimal}
 use Rattle.gms_fmt.specs.Columns.{right_in}
-use Rattle.gms_lines.specs.Lines.{put_first, lines, begins, is_line_end, before, content}
-use Rattle.gms_lines.proofs.LineLemmas.{before_stops, before_more}
+use Rattle.gms_grammar.specs.Lines.{put_first, lines, begins, is_line_end, before, content}
+use Rattle.gms_grammar.proofs.LineLemmas.{before_stops, before_more}
 use Rattle.gms_list.specs.InnerLineEnds.{text_after_end}
 use Rattle.gms_list.specs.ListingText.{numbered_line, numbered_from, echo_text}
 

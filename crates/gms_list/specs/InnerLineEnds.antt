@@ -1,6 +1,6 @@
 -- The text after the end of a line.
 use Rattle.std.specs.Prelude.{ℕ, ◌==◌, ◌&&◌, List, [], ◌∷◌, drop, if◌then◌else◌}
-use Rattle.gms_lines.specs.Lines.{begins}
+use Rattle.gms_grammar.specs.Lines.{begins}
 
 -- the text after the line end with which a text begins: a line feed, or a carriage return and a
 -- line feed; nothing if it begins with no line end

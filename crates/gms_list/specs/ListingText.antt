@@ -4,7 +4,7 @@ use Rattle.std.specs.Prelude.{ℕ, ◌+◌, ◌*◌, ◌/◌, ◌%◌, ◌^◌, 
 use Rattle.std.specs.List.{fold}
 use Rattle.gq_extended.specs.Extended.{Extended, number, plus_infinity, minus_infinity, na}
 use Rattle.gms_labels.specs.declared.place.Place.{Place}
-use Rattle.gms_lines.specs.Lines.{lines, content}
+use Rattle.gms_grammar.specs.Lines.{lines, content}
 use Rattle.gms_ast.specs.declared.expression.Suffix.{Suffix}
 use Rattle.gms_ast.specs.declared.expression.Suffix.TheVariants as suffix
 use Rattle.gms_store.specs.declared.kind.SymbolKind.{SymbolKind}

@@ -1,12 +1,12 @@
 //! The echo of a source.
 ghost use Rattle.std.specs.Prelude.{◌≡◌, ◌∷◌, ◌<◌, length, take, map};
-ghost use Rattle.gms_lines.specs.Lines.{lines, content, before, is_line_end};
+ghost use Rattle.gms_grammar.specs.Lines.{lines, content, before, is_line_end};
 ghost use Rattle.gms_fmt.specs.Columns.{Appends};
 ghost use Rattle.gms_list.specs.ListingText.{echo_text, numbered_line};
 ghost use Rattle.gms_list.specs.InnerLineEnds.{text_after_end};
 
 use crate::listing::Listing;
-use gms_lines::content_length;
+use gms_grammar::content_length;
 use std::alloc::{AllocError, Global};
 
 /// The text after the line end with which it begins.

@@ -6,18 +6,18 @@ use Rattle.std.proofs.lemmas.List.{map_push}
 use Rattle.std.specs.List.{prefix_len}
 use Rattle.std.specs.Char.{is_ascii_alphabetic, is_ascii_alphanumeric}
 use Rattle.gms_labels.specs.declared.place.Place.{Place}
-use Rattle.gms_lines.specs.Lines.{begins, is_blank, is_line_end, content}
-use Rattle.gms_lines.specs.declared.kind.Kind.{Kind}
-use Rattle.gms_lines.specs.declared.kind.Kind.TheVariants as kind
-use Rattle.gms_lines.specs.declared.kind.Sym.{Sym}
-use Rattle.gms_lines.specs.declared.lexeme.Piece.{Piece}
-use Rattle.gms_lines.specs.declared.lexeme.Piece.TheVariants as piece
-use Rattle.gms_lines.specs.declared.lexeme.Lexeme.{Lexeme}
-use Rattle.gms_lines.specs.Bytes.{is_quote, is_ascii, is_name_byte, is_label_byte, is_text_byte}
-use Rattle.gms_lines.specs.Numbers.{begins_number}
-use Rattle.gms_lines.specs.Symbols.{longest_symbol}
-use Rattle.gms_lines.specs.Shapes.{Read, longest_label, symbol_read, symbol, quoted_length, is_closed, is_label, quoted, code_token, label_token, remark}
-use Rattle.gms_lines.specs.TableLines.{table_bytes}
+use Rattle.gms_grammar.specs.Lines.{begins, is_blank, is_line_end, content}
+use Rattle.gms_grammar.specs.declared.kind.Kind.{Kind}
+use Rattle.gms_grammar.specs.declared.kind.Kind.TheVariants as kind
+use Rattle.gms_grammar.specs.declared.kind.Sym.{Sym}
+use Rattle.gms_grammar.specs.declared.lexeme.Piece.{Piece}
+use Rattle.gms_grammar.specs.declared.lexeme.Piece.TheVariants as piece
+use Rattle.gms_grammar.specs.declared.lexeme.Lexeme.{Lexeme}
+use Rattle.gms_grammar.specs.Bytes.{is_quote, is_ascii, is_name_byte, is_label_byte, is_text_byte}
+use Rattle.gms_grammar.specs.Numbers.{begins_number}
+use Rattle.gms_grammar.specs.Symbols.{longest_symbol}
+use Rattle.gms_grammar.specs.Shapes.{Read, longest_label, symbol_read, symbol, quoted_length, is_closed, is_label, quoted, code_token, label_token, remark}
+use Rattle.gms_grammar.specs.TableLines.{table_bytes}
 use Rattle.gms_lex.specs.declared.keyword.Shape.{Shape}
 use Rattle.gms_lex.specs.declared.keyword.Shape.TheVariants.{Set, Parameter, Scalar, Model}
 use Rattle.gms_lex.specs.declared.mode.Stage.{Stage}

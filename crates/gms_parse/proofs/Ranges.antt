@@ -7,8 +7,8 @@ use Rattle.std.proofs.Math.Seq.{take-suc}
 use Rattle.gms_grammar.proofs.Orders.{order, at_once, earlier, later, some_there}
 use Rattle.gms_labels.specs.Labels.{place_of, entered, IsFullFor}
 use Rattle.gms_labels.proofs.Places.{place_of-entered, place_of-entered_kept}
-use Rattle.gms_lines.specs.declared.kind.Kind.{Kind}
-use Rattle.gms_lines.specs.declared.kind.Kind.TheVariants as token_kind
+use Rattle.gms_grammar.specs.declared.kind.Kind.{Kind}
+use Rattle.gms_grammar.specs.declared.kind.Kind.TheVariants as token_kind
 use Rattle.gms_lex.specs.declared.token.Token.{Token}
 use Rattle.gms_lex.specs.TokenTexts.{token_text, unquoted, IsSpelled}
 use Rattle.gms_lex.proofs.UnquotedLemmas.{unquoted_ascii}

@@ -2,16 +2,16 @@
 use Rattle.std.proofs.Common.{◌≡◌, ℕ, ◌≤◌, Bool, true, false, not, ◌&&◌, cond, ltb, Option, Some, None, List, [], ◌∷◌, length, refl, sym, ap, ◌∙◌}
 use Rattle.std.proofs.lemmas.Bool.{eqb-true, not-true, and_parts}
 use Rattle.std.specs.Str.{IsAscii}
-use Rattle.gms_lines.specs.declared.kind.Kind.{Kind}
-use Rattle.gms_lines.specs.declared.kind.Kind.TheVariants as kind
-use Rattle.gms_lines.specs.declared.kind.Sym.{Sym}
-use Rattle.gms_lines.specs.declared.kind.Sym.TheVariants as sym_kind
+use Rattle.gms_grammar.specs.declared.kind.Kind.{Kind}
+use Rattle.gms_grammar.specs.declared.kind.Kind.TheVariants as kind
+use Rattle.gms_grammar.specs.declared.kind.Sym.{Sym}
+use Rattle.gms_grammar.specs.declared.kind.Sym.TheVariants as sym_kind
 use Rattle.gms_lex.specs.declared.token.Token.{Token}
 use Rattle.gms_lex.specs.TokenTexts.{token_text}
 use Rattle.gms_grammar.specs.declared.terminal.Terminal.{Terminal}
 use Rattle.gms_grammar.specs.declared.terminal.Terminal.TheVariants.{Text, LongText, Label, TableLine, Break, End}
 use Rattle.gms_grammar.specs.Terminals.{is, is_terminal_among, terminal_number}
-use Rattle.gms_lines.specs.ControlWords.{is_word_among as is_listed}
+use Rattle.gms_grammar.specs.ControlWords.{is_word_among as is_listed}
 use Rattle.gms_grammar.proofs.Basics.{both_ways}
 use Rattle.gms_grammar.proofs.Checks.{right_and}
 use Rattle.gms_grammar.specs.Keywords.{Words, statement_words, kind_among}

@@ -8,7 +8,7 @@ use Rattle.std.proofs.lemmas.List.{map-append, reverse-append}
 use Rattle.std.proofs.lemmas.List.Elements.{All-nil, All-cons, All-head, All-tail, All-append}
 use Rattle.gq_number.specs.Number.{Number as Rational}
 use Rattle.gms_labels.specs.declared.place.Place.{Place}
-use Rattle.gms_lines.specs.declared.kind.Kind.{Kind}
+use Rattle.gms_grammar.specs.declared.kind.Kind.{Kind}
 use Rattle.gms_lex.specs.declared.token.Token.{Token}
 use Rattle.gms_lex.specs.TokenTexts.{token_text, IsSpelled}
 use Rattle.gms_ast.specs.declared.word.Named.{Named}

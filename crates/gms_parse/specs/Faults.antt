@@ -2,7 +2,7 @@
 -- are (GAMS User's Guide, "GAMS Output", compilation errors; the numbers are this project's).
 use Rattle.std.specs.Prelude.{ℕ, List, codes}
 use Rattle.gms_labels.specs.declared.place.Place.{Place}
-use Rattle.gms_lines.specs.Errors.{lex_error_code as lexical_code, lex_error_name as lexical_name}
+use Rattle.gms_grammar.specs.Errors.{lex_error_code as lexical_code, lex_error_name as lexical_name}
 use Rattle.gms_lex.specs.declared.fault.LexFault.{LexFault}
 use Rattle.gms_lex.specs.declared.fault.LexFaultOrMemory.{LexFaultOrMemory}
 use Rattle.gms_lex.specs.declared.fault.LexFaultOrMemory.TheVariants as lexed

@@ -2,9 +2,9 @@
 -- "Model and Solve Statements", "Display", "Programming Flow Control Features").
 use Rattle.std.specs.Prelude.{ℕ, Bool, List, [], Option, Some, None, codes}
 use Rattle.gq_number.specs.Number.{Number}
-use Rattle.gms_lines.specs.declared.kind.Sym.TheVariants as sym
-use Rattle.gms_lines.specs.declared.kind.Kind.{Kind}
-use Rattle.gms_lines.specs.declared.kind.Kind.TheVariants as token_kind
+use Rattle.gms_grammar.specs.declared.kind.Sym.TheVariants as sym
+use Rattle.gms_grammar.specs.declared.kind.Kind.{Kind}
+use Rattle.gms_grammar.specs.declared.kind.Kind.TheVariants as token_kind
 use Rattle.gms_lex.specs.declared.token.Token.{Token}
 use Rattle.gms_grammar.specs.declared.terminal.Terminal.{Terminal}
 use Rattle.gms_grammar.specs.Grammar.{DerivationTree, pair, left, right, none, some, node}

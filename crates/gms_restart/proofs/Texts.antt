@@ -5,14 +5,14 @@ use Rattle.std.specs.Prelude.{flat_map}
 use Rattle.std.proofs.lemmas.List.{append-nil, take-append-drop}
 use Rattle.std.proofs.Math.Seq.{drop-append_seam, take-append_seam}
 use Rattle.gms_labels.specs.declared.place.Place.{Place}
-use Rattle.gms_lines.specs.Lines.{is_blank}
-use Rattle.gms_lines.specs.Bytes.{is_quote}
+use Rattle.gms_grammar.specs.Lines.{is_blank}
+use Rattle.gms_grammar.specs.Bytes.{is_quote}
 use Rattle.gms_lex.specs.declared.token.Token.{Token}
 use Rattle.gms_lex.specs.TokenTexts.{token_text, unquoted}
 use Rattle.gms_grammar.specs.declared.terminal.Terminal.{Terminal}
 use Rattle.gms_set.specs.Ranges.{members}
 use Rattle.gms_table.specs.TableEntries.{TablePart, name, cell, is_plus, under, table_of, met, meet}
-use Rattle.gms_lines.specs.SplitFields.{is_dot, field_bytes}
+use Rattle.gms_grammar.specs.SplitFields.{is_dot, field_bytes}
 use Rattle.gms_table.specs.WordLabels.{label_of_text, labels_among, labels_of_text, labels_of_word, quoted_label, plain_label, with_label}
 use Rattle.gms_table.specs.Words.{Word, column_of_byte, first_fields, others_by, parted, word_of, words_among}
 use Rattle.gms_parse.specs.Tables.{parts_of_tokens}

@@ -5,8 +5,8 @@ use Rattle.std.proofs.lemmas.List.{length-append}
 use Rattle.std.proofs.lemmas.List.Elements.{All-head, All-tail, filter-append}
 use Rattle.std.proofs.Math.Seq.{take-append-add, take-length}
 use Rattle.gms_labels.specs.declared.place.Place.{Place}
-use Rattle.gms_lines.proofs.LineLemmas.{below_or}
-use Rattle.gms_lines.specs.Columns.{column_after}
+use Rattle.gms_grammar.proofs.LineLemmas.{below_or}
+use Rattle.gms_grammar.specs.Columns.{column_after}
 use Rattle.gms_lex.specs.declared.token.Token.{Token}
 use Rattle.gms_lex.specs.Places.{IsEarlier, place_after_bytes, place_of_byte, source_start}
 use Rattle.gms_lex.specs.TokenTexts.{IsPlaced}

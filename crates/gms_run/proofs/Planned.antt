@@ -11,8 +11,8 @@ use Rattle.gms_exec.specs.Answering.{AreAnswered}
 use Rattle.gms_exec.specs.Run.{World}
 use Rattle.gms_save.specs.JointErrors.{joint_errors, resumed, saved_statements}
 use Rattle.gms_save.specs.Saves.{IsSavedBy}
-use Rattle.gms_plans.specs.Moments.{AnswersAreSo, run_with_answers}
-use Rattle.gms_plans.proofs.Promised.{plans-from_save, plans-from_start}
+use Rattle.gms_laws.specs.Moments.{AnswersAreSo, run_with_answers}
+use Rattle.gms_laws.proofs.Promised.{plans-from_save, plans-from_start}
 use Rattle.lp_core.specs.declared.answer.Answer.{Answer}
 use Rattle.lp_slot.specs.declared.solver.SolverRule.{SolverRule}
 use Rattle.gms_run.specs.Solving.{Solving}

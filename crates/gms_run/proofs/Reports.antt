@@ -30,8 +30,8 @@ use Rattle.lp_slot.proofs.Under.{legal_under}
 use Rattle.lp_core.specs.declared.program.Lp.{Lp}
 use Rattle.lp_core.specs.Numbers.{lp_numbers}
 use Rattle.lp_slot.specs.SolverNames.{IsSolverName}
-use Rattle.gms_range_lines.specs.Answered.{AreSomeAnswers, IsSomeAnswer}
-use Rattle.gms_range_lines.specs.RangeTexts.{SaysRanges}
+use Rattle.gms_command.specs.Answered.{AreSomeAnswers, IsSomeAnswer}
+use Rattle.gms_command.specs.RangeTexts.{SaysRanges}
 use Rattle.gms_list.specs.ListingText.{echo_text, end_text, has_echo, refused_echo}
 use Rattle.gms_run.specs.declared.status.Status.{Status}
 use Rattle.gms_run.specs.declared.status.Status.TheVariants.{Done, Usage, Compile, Execution, ReadFault, WriteFault}

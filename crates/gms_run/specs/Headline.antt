@@ -16,7 +16,7 @@ use Rattle.gms_check.specs.CompileErrors.{compile_errors}
 use Rattle.gms_check.specs.Loaded.{loaded}
 use Rattle.gms_exec.specs.Answering.{AreAnswered}
 use Rattle.gms_exec.specs.Run.{Course, run_from, all_events}
-use Rattle.gms_plans.specs.Moments.{AnswersAreSo}
+use Rattle.gms_laws.specs.Moments.{AnswersAreSo}
 use Rattle.gms_list.specs.ListingText.{run_listing, errors_listing, refused_listing}
 use Rattle.gms_host.specs.Meaning.{Outside}
 use Rattle.gms_host.specs.Rules.{with_said}

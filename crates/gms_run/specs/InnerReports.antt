@@ -25,7 +25,7 @@ use Rattle.lp_core.specs.declared.answer.Answer.{Answer}
 use Rattle.lp_core.specs.declared.program.Lp.{Lp}
 use Rattle.lp_core.specs.Numbers.{lp_numbers}
 use Rattle.lp_slot.specs.SolverNames.{IsSolverName}
-use Rattle.gms_range_lines.specs.RangeTexts.{SaysRanges}
+use Rattle.gms_command.specs.RangeTexts.{SaysRanges}
 use Rattle.gms_command.specs.CommandLine.{Asked, Origin, in_file, restarted, generated, read_fault_line}
 use Rattle.gms_run.specs.declared.status.Status.{Status}
 use Rattle.gms_run.specs.declared.status.Status.TheVariants.{Compile, ReadFault, WriteFault}

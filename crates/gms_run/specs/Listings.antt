@@ -19,7 +19,7 @@ use Rattle.gms_save.specs.Saves.{IsSaveOf, place_of_solver}
 use Rattle.gms_save.specs.declared.fault.SaveFault.{SaveFault}
 use Rattle.gms_save.specs.Faults.{save_fault_code, fault_name}
 use Rattle.gms_command.specs.CommandLine.{Asked, Origin, in_file, restarted, generated, generated_line, closing_line}
-use Rattle.gms_range_lines.specs.RangeTexts.{SaysRanges}
+use Rattle.gms_command.specs.RangeTexts.{SaysRanges}
 use Rattle.gms_run.specs.declared.status.Status.{Status}
 use Rattle.gms_run.specs.declared.status.Status.TheVariants.{Done, Usage, Compile, Execution, ReadFault, WriteFault}
 use Rattle.gms_run.specs.Solving.{Solving, SolvesNothing, numbers_of, places_of, programs_of, solves_in}

@@ -8,7 +8,7 @@ use Rattle.gms_store.specs.State.{State}
 use Rattle.gms_eval.specs.Faults.{Fault}
 use Rattle.gms_exec.specs.Answering.{AreAnswered}
 use Rattle.gms_exec.specs.Run.{Course, Halt, stopped, waiting, run_from, all_events}
-use Rattle.gms_plans.specs.Moments.{AnswersAreSo}
+use Rattle.gms_laws.specs.Moments.{AnswersAreSo}
 use Rattle.gms_list.specs.ListingText.{echo_text, events_text, end_text}
 use Rattle.gms_run.specs.declared.status.Status.{Status}
 use Rattle.gms_run.specs.declared.status.Status.TheVariants.{Done, Usage, Compile, Execution, ReadFault, WriteFault}

@@ -8,7 +8,7 @@ pub fn run_laws()
 
 /// Where `run` executed what was requested, from its start or from a save, what each answer says is
 /// so of the model as it is written, with the data of the moment of the solve (`plan_laws` of
-/// gms_plans). Optimal: the listed levels satisfy the equations and bounds, and no other plan that
+/// gms_laws). Optimal: the listed levels satisfy the equations and bounds, and no other plan that
 /// does is better. Infeasible: no plan does. Unbounded: some plan is better than each number.
 pub fn answer_laws()
     ensures { RunsAreAnsweredRightly }

@@ -1,8 +1,8 @@
 -- A text is its first field and what follows it.
 use Rattle.std.proofs.Common.{◌≡◌, ℕ, zero, suc, ◌≤◌, ◌<◌, Bool, List, [], ◌∷◌, length, take, drop, refl, ap, arith}
 use Rattle.std.proofs.lemmas.List.{length-drop}
-use Rattle.gms_lines.specs.SplitFields.{field_bytes}
-use Rattle.gms_lines.proofs.FieldLemmas.{field_length-le}
+use Rattle.gms_grammar.specs.SplitFields.{field_bytes}
+use Rattle.gms_grammar.proofs.FieldLemmas.{field_length-le}
 use Rattle.gms_table.specs.Words.{others_by, first_fields, parted}
 
 -- a field is within its text

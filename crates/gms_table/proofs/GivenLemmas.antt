@@ -4,7 +4,7 @@ use Rattle.std.specs.List.{Contains}
 use Rattle.std.specs.Str.{bytes_eq}
 use Rattle.std.proofs.lemmas.Slice.Eq.{bytes_eq-Decides}
 use Rattle.std.proofs.lemmas.List.Elements.{Contains-append_left, Contains-append_right, Contains-append_cases, Contains-push_cases, Contains-push}
-use Rattle.gms_lines.proofs.LineLemmas.{true_or_false}
+use Rattle.gms_grammar.proofs.LineLemmas.{true_or_false}
 use Rattle.gq_number.specs.Number.{Number}
 use Rattle.gms_labels.specs.Labels.{lower_case, is_same, place_of}
 use Rattle.gms_labels.proofs.Places.{place_of-reads, is_same_sym, is_same_trans}

@@ -4,10 +4,10 @@ use Rattle.std.proofs.lemmas.List.{length-append, map_push, take_rest}
 use Rattle.std.proofs.lemmas.List.Sums.{fold-append}
 use Rattle.gms_labels.specs.Labels.{place_of, entered, IsFullFor, most_labels}
 use Rattle.gms_labels.proofs.Places.{place_of-entered_kept}
-use Rattle.gms_lines.proofs.LineLemmas.{true_or_false}
+use Rattle.gms_grammar.proofs.LineLemmas.{true_or_false}
 use Rattle.gms_table.specs.Words.{parted}
 use Rattle.gms_table.specs.WordLabels.{label_of_text, with_label, labels_among, all_entered, AreLabelNumbers, IsPrefix}
-use Rattle.gms_lines.specs.SplitFields.{is_dot, field_bytes}
+use Rattle.gms_grammar.specs.SplitFields.{is_dot, field_bytes}
 use Rattle.gms_table.proofs.FieldLemmas.{fields_after, parted-field}
 
 -- entering some labels and then others

@@ -1,6 +1,6 @@
 -- Numbers with a sign.
 use Rattle.std.proofs.Common.{◌≡◌, ℕ, true, false, ◌==◌, List, Some, Result, Ok, Err, refl, subst}
-use Rattle.gms_lines.specs.Lines.{begins}
+use Rattle.gms_grammar.specs.Lines.{begins}
 use Rattle.gq_number.specs.Number.{Number, neg_ℚ}
 use Rattle.gq_text.specs.Decimal.{MeansNumber}
 use Rattle.gq_text.specs.Literal.{FitsLiteral}

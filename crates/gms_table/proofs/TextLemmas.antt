@@ -8,8 +8,8 @@ use Rattle.std.specs.Str.{IsAscii, IsUtf8}
 use Rattle.std.proofs.lemmas.Bool.Decides.{nat_tests}
 use Rattle.std.proofs.lemmas.Str.{IsUtf8-from_ascii}
 use Rattle.std.proofs.lemmas.Str.Ascii.{IsAscii-nil, IsAscii-cons}
-use Rattle.gms_lines.proofs.LineLemmas.{true_or_false}
-use Rattle.gms_lines.specs.Bytes.{is_label_byte, is_ascii}
+use Rattle.gms_grammar.proofs.LineLemmas.{true_or_false}
+use Rattle.gms_grammar.specs.Bytes.{is_label_byte, is_ascii}
 
 IsAscii-plain : (bytes : List ℕ) → list_all is_ascii bytes ≡ true → IsAscii bytes
 IsAscii-plain [] h = IsAscii-nil

@@ -3,12 +3,12 @@ use Rattle.std.proofs.Common.{◌≡◌, ℕ, ◌+◌, ◌-◌, ◌*◌, ◌<◌
 use Rattle.std.proofs.lemmas.List.Sums.{fold-append, fold_more}
 use Rattle.std.proofs.Math.Seq.{take-add}
 use Rattle.std.proofs.lemmas.List.{length-drop, length-take-le, drop-drop, drop_all, take_rest}
-use Rattle.gms_lines.specs.Lines.{is_blank}
-use Rattle.gms_lines.specs.Columns.{column_after}
+use Rattle.gms_grammar.specs.Lines.{is_blank}
+use Rattle.gms_grammar.specs.Columns.{column_after}
 use Rattle.gms_table.specs.Words.{Word, parted, column_of_byte, word_of, word_at, words_among, words_of}
 use Rattle.gms_table.specs.InnerShown.{AreSpacedFrom}
-use Rattle.gms_lines.specs.SplitFields.{field_bytes}
-use Rattle.gms_lines.proofs.ColumnLemmas.{column_after-bounds}
+use Rattle.gms_grammar.specs.SplitFields.{field_bytes}
+use Rattle.gms_grammar.proofs.ColumnLemmas.{column_after-bounds}
 use Rattle.gms_table.proofs.FieldLemmas.{field_bytes-le, fields_after, parted-field}
 
 -- the column of a byte further on

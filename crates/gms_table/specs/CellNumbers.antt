@@ -1,8 +1,8 @@
 -- The numbers in a row of a table: decimals, each with or without a sign (GAMS User's Guide,
 -- "Language Items", numbers).
 use Rattle.std.specs.Prelude.{◌≡◌, ℕ, ◌==◌, if◌then◌else◌, List, drop}
-use Rattle.gms_lines.specs.Lines.{begins}
-use Rattle.gms_lines.specs.Numbers.{is_sign}
+use Rattle.gms_grammar.specs.Lines.{begins}
+use Rattle.gms_grammar.specs.Numbers.{is_sign}
 use Rattle.gq_number.specs.Number.{Number, neg_ℚ}
 use Rattle.gq_text.specs.Decimal.{MeansNumber}
 use Rattle.gq_text.specs.Literal.{FitsLiteral}

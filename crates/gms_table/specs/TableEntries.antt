@@ -4,7 +4,7 @@
 use Rattle.std.specs.Prelude.{◌≡◌, ◌⊎◌, ℕ, ◌≤◌, ◌<◌, Bool, ◌&&◌, ◌==◌, nat_lt, if◌then◌else◌, List, [], ◌∷◌, ◌++◌, length, map, filter, Contains, None, string_bytes}
 use Rattle.gms_labels.specs.declared.place.Place.{Place}
 use Rattle.gms_labels.specs.Labels.{lower_case, most_labels}
-use Rattle.gms_lines.specs.Lines.{begins}
+use Rattle.gms_grammar.specs.Lines.{begins}
 use Rattle.gq_number.specs.Number.{Number}
 use Rattle.gms_table.specs.declared.entry.TableLine.{TableLine}
 use Rattle.gms_table.specs.declared.entry.Entry.{Entry}

@@ -3,11 +3,11 @@
 use Rattle.std.specs.Prelude.{◌≡◌, ℕ, ◌+◌, not, ◌&&◌, ◌==◌, nat_le, if◌then◌else◌, List, [], ◌∷◌, ◌++◌, length, take, Option, Some, None, unwrap_or, fold, map}
 use Rattle.std.specs.List.{list_all, prefix_len}
 use Rattle.std.specs.Char.{is_ascii_alphanumeric}
-use Rattle.gms_lines.specs.Lines.{begins}
+use Rattle.gms_grammar.specs.Lines.{begins}
 use Rattle.gms_labels.specs.Labels.{entered, place_of}
-use Rattle.gms_lines.specs.Bytes.{is_label_byte, is_quote, is_ascii}
-use Rattle.gms_lines.specs.Shapes.{longest_label}
-use Rattle.gms_lines.specs.SplitFields.{is_dot}
+use Rattle.gms_grammar.specs.Bytes.{is_label_byte, is_quote, is_ascii}
+use Rattle.gms_grammar.specs.Shapes.{longest_label}
+use Rattle.gms_grammar.specs.SplitFields.{is_dot}
 use Rattle.gms_table.specs.Words.{Word, parted}
 
 -- the label after its first mark: the text before the closing mark, which nothing follows; it is

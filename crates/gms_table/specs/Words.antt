@@ -2,9 +2,9 @@
 -- (GAMS User's Guide, "Data Entry: Parameters, Scalars and Tables").
 use Rattle.std.specs.Prelude.{ℕ, zero, suc, ◌+◌, Bool, List, [], ◌∷◌, ◌++◌, length, take, drop, fold}
 use Rattle.gms_labels.specs.declared.place.Place.{Place}
-use Rattle.gms_lines.specs.Lines.{is_blank}
-use Rattle.gms_lines.specs.Columns.{column_after}
-use Rattle.gms_lines.specs.SplitFields.{field_bytes}
+use Rattle.gms_grammar.specs.Lines.{is_blank}
+use Rattle.gms_grammar.specs.Columns.{column_after}
+use Rattle.gms_grammar.specs.SplitFields.{field_bytes}
 
 -- A word: its place, the column after it, and its bytes.
 pub record Word : Type 0 where

@@ -3,8 +3,8 @@ ghost use Rattle.std.specs.Prelude.{◌≡◌, ◌≤◌, ◌<◌, ◌==◌, tru
 ghost use Rattle.std.specs.List.{list_all, prefix_len};
 ghost use Rattle.std.specs.Char.{is_ascii_alphanumeric};
 ghost use Rattle.std.specs.Option.{option_copied};
-ghost use Rattle.gms_lines.specs.Lines.{begins};
-ghost use Rattle.gms_lines.specs.Bytes.{is_ascii};
+ghost use Rattle.gms_grammar.specs.Lines.{begins};
+ghost use Rattle.gms_grammar.specs.Bytes.{is_ascii};
 ghost use Rattle.gms_table.specs.WordLabels.{quoted_label, plain_label, label_of_text, labels_of_text, IsPrefix};
 ghost use Rattle.gms_table.specs.InnerNames.{Enters, IsEntering, read, read_all};
 ghost use Rattle.gms_table.specs.InnerShown.{seen};
@@ -12,7 +12,7 @@ ghost use Rattle.gms_table.specs.InnerShown.{seen};
 use crate::fault::{TableError, TableFaultOrMemory};
 use crate::word::Word;
 use gms_labels::{LabelFault, Labels, MOST_BYTES};
-use gms_lines::{Separator, label_length, field_length};
+use gms_grammar::{Separator, label_length, field_length};
 use std::alloc::{AllocError, Global};
 
 /// Whether all bytes are of ASCII.

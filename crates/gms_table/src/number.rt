@@ -1,6 +1,6 @@
 //! The numbers in a row of a table.
 ghost use Rattle.std.specs.Prelude.{◌≡◌, ◌==◌};
-ghost use Rattle.gms_lines.specs.Lines.{begins};
+ghost use Rattle.gms_grammar.specs.Lines.{begins};
 ghost use Rattle.gms_table.specs.CellNumbers.{unsigned};
 ghost use Rattle.gms_table.specs.InnerNumbers.{ReadsCell};
 

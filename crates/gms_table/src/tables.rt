@@ -1,6 +1,6 @@
 //! The entries of a table.
 ghost use Rattle.std.specs.Prelude.{◌≡◌, ◌≤◌, ◌++◌, ◌∷◌, [], ℕ, List, All, IfOk, IfNone, IfSome, MatchResult, string_len};
-ghost use Rattle.gms_lines.specs.LineFaults.{longest_line};
+ghost use Rattle.gms_grammar.specs.LineFaults.{longest_line};
 ghost use Rattle.gms_table.specs.Words as seen_words;
 ghost use Rattle.gms_table.specs.WordLabels.{IsPrefix};
 ghost use Rattle.gms_table.specs.InnerShown.{seen, seen_all, AreSpaced, AreHeadings};

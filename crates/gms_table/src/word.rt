@@ -1,13 +1,13 @@
 //! The words of a line of a table, and the columns that they take.
 ghost use Rattle.std.specs.Prelude.{◌≡◌, ◌≤◌, ◌<◌, ◌+◌, ◌*◌, ◌^◌, ◌++◌, length, fold, IfOk, OnOk};
-ghost use Rattle.gms_lines.specs.LineFaults.{longest_line};
-ghost use Rattle.gms_lines.specs.Columns.{column_after};
+ghost use Rattle.gms_grammar.specs.LineFaults.{longest_line};
+ghost use Rattle.gms_grammar.specs.Columns.{column_after};
 ghost use Rattle.gms_table.specs.Words.{word_of, words_of};
 ghost use Rattle.gms_table.specs.InnerShown.{seen, seen_all, AreSpaced};
 
 use crate::fault::{TableError, TableFault, TableFaultOrMemory};
 use gms_labels::Place;
-use gms_lines::{Separator, column_after, field_length};
+use gms_grammar::{Separator, column_after, field_length};
 use std::alloc::{AllocError, Global};
 
 /// A word of a line.

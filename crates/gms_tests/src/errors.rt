@@ -5,7 +5,7 @@ use gms_expressions::{SyntaxError, SyntaxFault, SyntaxFaultOrMemory};
 use gms_host::Failed;
 use gms_labels::{LabelFault, Place};
 use gms_lex::{LexFault, LexFaultOrMemory};
-use gms_lines::{ByteFault, LexError};
+use gms_grammar::{ByteFault, LexError};
 use gms_parse::{SourceError, SourceFault, SourceFaultOrMemory};
 use gms_save::{SaveFault, SaveFaultOrMemory};
 use gms_save_text::ReadFault;

@@ -1,3 +1,5 @@
+pub mod InnerImproving
+pub mod SteepestName
 pub mod Costs
 pub mod Denominators
 pub mod Measures

@@ -71,7 +71,7 @@ pub fn answer_of<F: ExactField>(
     ensures to_the_end { IfOk result (EndsUninterruptedByTurn F.value lp.now iterlim) }
 {
     match member {
-        Member::Steepest => lp_steepest::solve_in(alloc, lp, iterlim),
+        Member::Steepest => crate::steepest_answer::solve_in(alloc, lp, iterlim),
         Member::Shortest => solve_with(alloc, lp, iterlim, Shortest),
         Member::GainForBits => solve_with(alloc, lp, iterlim, GainForBits),
         Member::ShortInRow => solve_with(alloc, lp, iterlim, ShortInRow),

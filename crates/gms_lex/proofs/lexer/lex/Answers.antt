@@ -1,6 +1,6 @@
 -- The earlier fault of both passes, or the tokens.
 use Rattle.std.proofs.Common.{◌≡◌, ◌∙◌, sym, ap, subst, length, List, ℕ}
-use Rattle.gms_lines.specs.Lines.{code_text}
+use Rattle.gms_grammar.specs.Lines.{code_text}
 use Rattle.gms_labels.specs.declared.place.Place.{Place}
 use Rattle.gms_lex.specs.InnerReadings.{IsReading}
 use Rattle.gms_lex.specs.Tokens.{IsLexFault}

@@ -2,7 +2,7 @@
 use Rattle.std.proofs.Common.{◌≡◌, false, drop, sym, ap, ◌∙◌, arith}
 use Rattle.std.proofs.lemmas.List.{take_rest}
 use Rattle.gms_lex.specs.Pieces.{begins_other}
-use Rattle.gms_lines.proofs.LineLemmas.{before_goes}
+use Rattle.gms_grammar.proofs.LineLemmas.{before_goes}
 use Rattle.gms_lex.proofs.piece.space_length.Goals as goal
 
 pub loop-count-preserved : goal.loop-count-preserved

@@ -1,5 +1,5 @@
 use Rattle.std.proofs.Common.{◌≡◌, ◌+◌, ◌-◌, ◌≤◌, length, drop}
-use Rattle.gms_lines.specs.Lines.{before}
+use Rattle.gms_grammar.specs.Lines.{before}
 use Rattle.gms_lex.specs.Pieces.{begins_other}
 use Rattle.gms_lex.proofs.piece.space_length.Given as goal
 

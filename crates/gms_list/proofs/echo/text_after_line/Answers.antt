@@ -1,6 +1,6 @@
 use Rattle.std.proofs.Common.{rules, arith, ap, ◌∙◌, subst, sym, ◌<◌, length}
-use Rattle.gms_lines.specs.Lines.{is_line_end}
-use Rattle.gms_lines.proofs.LineLemmas.{before-le-length}
+use Rattle.gms_grammar.specs.Lines.{is_line_end}
+use Rattle.gms_grammar.proofs.LineLemmas.{before-le-length}
 use Rattle.gms_list.proofs.Echoes.{after_shorter, after_lines}
 use Rattle.gms_list.proofs.echo.text_after_line.Goals as goal
 

@@ -2,7 +2,7 @@
 use Rattle.std.proofs.Common.{◌≤◌, sym, ap, ◌∙◌, subst, arith, eqb-true}
 use Rattle.std.specs.Prelude.{All, string_len}
 use Rattle.std.proofs.lemmas.List.Elements.{All-tail}
-use Rattle.gms_lines.specs.LineFaults.{longest_line}
+use Rattle.gms_grammar.specs.LineFaults.{longest_line}
 use Rattle.gms_table.specs.declared.entry.TableLine.{TableLine}
 use Rattle.gms_table.specs.Words.{words_of}
 use Rattle.gms_table.specs.InnerShown.{seen_all}

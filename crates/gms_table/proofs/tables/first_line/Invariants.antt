@@ -1,6 +1,6 @@
 use Rattle.std.proofs.Common.{◌≡◌, ◌≤◌, length}
 use Rattle.std.specs.Prelude.{All, string_len}
-use Rattle.gms_lines.specs.LineFaults.{longest_line}
+use Rattle.gms_grammar.specs.LineFaults.{longest_line}
 use Rattle.gms_table.specs.TableEntries.{table_of}
 use Rattle.gms_table.specs.InnerProgress.{lines_of}
 use Rattle.gms_table.proofs.tables.first_line.Given as goal

@@ -1,5 +1,5 @@
 use Rattle.std.proofs.Common.{◌≡◌, ◌+◌, ◌-◌, ◌*◌, ◌≤◌, length, take, fold}
-use Rattle.gms_lines.specs.Columns.{column_after}
+use Rattle.gms_grammar.specs.Columns.{column_after}
 use Rattle.gms_table.proofs.word.column_after_bytes.Given as goal
 
 -- the column after the bytes so far, which stays within the bound for the rest

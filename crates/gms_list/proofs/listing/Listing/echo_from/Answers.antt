@@ -1,5 +1,5 @@
 use Rattle.std.proofs.Common.{◌≡◌, ◌+◌, ◌++◌, ◌<◌, ◌≤◌, ◌∙◌, ap, sym, arith, refl, map, length, take, rules, List, [], ◌∷◌, ℕ}
-use Rattle.gms_lines.specs.Lines.{lines, content}
+use Rattle.gms_grammar.specs.Lines.{lines, content}
 use Rattle.gms_list.specs.ListingText.{numbered_line, numbered_from}
 use Rattle.std.proofs.lemmas.Bool.Decides.{nat_tests}
 use Rattle.gms_list.proofs.Echoes.{next_line, no_lines}

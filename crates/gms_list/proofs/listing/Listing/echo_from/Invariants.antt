@@ -1,5 +1,5 @@
 use Rattle.std.proofs.Common.{◌≡◌, ◌+◌, ◌≤◌, map, length}
-use Rattle.gms_lines.specs.Lines.{lines, content}
+use Rattle.gms_grammar.specs.Lines.{lines, content}
 use Rattle.gms_list.specs.ListingText.{numbered_from, echo_text}
 use Rattle.gms_list.proofs.AppendedPieces.{Traversed}
 use Rattle.gms_list.proofs.listing.Listing.echo_from.Given as goal

@@ -6,7 +6,7 @@ use Rattle.gq_frac.specs.declared.frac.Frac.{Frac}
 use Rattle.gq_frac.specs.Frac.{frac_value, frac_limit}
 use Rattle.lp_core.specs.declared.answer.Answer.{Answer}
 use Rattle.gms_host.proofs.Counting.{writing_done, writing_more}
-use Rattle.gms_range_lines.specs.Answered.{AreSomeAnswers}
+use Rattle.gms_command.specs.Answered.{AreSomeAnswers}
 use Rattle.gms_command.specs.CommandLine.{asked_by}
 use Rattle.gms_run.specs.InnerReports.{IsRemarked}
 use Rattle.gms_run.specs.Solving.{solving}

@@ -1,0 +1,23 @@
+-- Where a line of a table ends: before the `;` that ends the table, or with the line (GAMS User's
+-- Guide, "Data Entry: Tables").
+use Rattle.std.specs.Prelude.{ℕ, nat_lt, if◌then◌else◌, List, take}
+use Rattle.std.specs.List.{prefix_len}
+use Rattle.gms_grammar.specs.declared.fault.LexError.TheVariants.{BadByte}
+use Rattle.gms_grammar.specs.declared.kind.Kind.TheVariants.{TableLine}
+use Rattle.gms_grammar.specs.declared.lexeme.Piece.TheVariants.{Token}
+use Rattle.gms_grammar.specs.declared.split_fields.Separator.TheVariants.{Semicolon}
+use Rattle.gms_grammar.specs.SplitFields.{is_separator, field_bytes}
+use Rattle.gms_grammar.specs.Bytes.{is_ascii}
+use Rattle.gms_grammar.specs.Shapes.{Read, lexeme, misread}
+
+-- how many bytes of a line belong to the table: up to a `;` outside quoted labels, or all
+abbrev pub table_bytes : List ℕ → ℕ
+table_bytes line = field_bytes (is_separator Semicolon) line
+
+-- `length` bytes of a line of a table, of which the first `plain` are ASCII
+abbrev pub table_line_of : ℕ → ℕ → Read
+table_line_of length plain = if nat_lt plain length then misread BadByte plain else lexeme (Token TableLine) length
+
+-- the token of `length` bytes of a line of a table
+abbrev pub table_line : ℕ → List ℕ → Read
+table_line length line = table_line_of length (prefix_len is_ascii (take length line))

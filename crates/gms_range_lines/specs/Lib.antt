@@ -1,2 +1,0 @@
-pub mod RangeTexts
-pub mod Answered

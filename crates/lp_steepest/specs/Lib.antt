@@ -1,2 +1,0 @@
-pub mod InnerImproving
-pub mod Name
