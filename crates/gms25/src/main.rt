@@ -49,7 +49,9 @@ fn run_with_solvers<H: Host>(
     ensures steady { IsReadyFor (H.meaning host.old) (texts words.now) → (H.meaning host.new).counts ≡ (H.meaning host.old).counts }
     ensures no_fault { IsReadyFor (H.meaning host.old) (texts words.now) → IfOk result EndsByNoFault }
     ensures usage { IfOk result (λ status. (status ≡ Status.Usage) ↔ (request_of (texts words.now) ≡ None)) }
-    ensures complete { NamesProgram lent.names (H.meaning host.old).outside (texts words.now) → MeetsNoFault (H.meaning host.old).counts (H.meaning host.new).counts → IfOk result (λ status. (status ≡ Status.Done) ⊎ (status ≡ Status.Execution)) }
+    ensures complete { NamesProgram lent.names (H.meaning host.old).outside (texts words.now) →
+        MeetsNoFault (H.meaning host.old).counts (H.meaning host.new).counts →
+        IfOk result (λ status. (status ≡ Status.Done) ⊎ (status ≡ Status.Execution)) }
 {
     let mut solvers: Vec<Box<dyn LpSolver>> = Vec::new(alloc);
     solvers.push(Box::new(alloc, Bland::new(alloc))?)?;

@@ -36,9 +36,12 @@ impl<'s, F: ExactField> Checker<'s, F> {
         items: &[Decl<F>],
     ) -> Result<(), AllocError>
         ensures first { OnOk result ((seen self.new).first
-            ≡ sooner (seen self.old).first (first_error (errors_of (known_of F.value (seen self.old)) (kind_uses at kind) ++ declaration_errors (known_of F.value (seen self.old)) kind items.now))) }
+            ≡ sooner (seen self.old).first
+            (first_error (errors_of (known_of F.value (seen self.old)) (kind_uses at kind) ++
+            declaration_errors (known_of F.value (seen self.old)) kind items.now))) }
         ensures facts { OnOk result (seen self.new
-            ≡ record (seen self.old) { first = (seen self.new).first; facts = after_declaration F.value kind (is_none (seen self.new).first) (seen self.old).facts items.now }) }
+            ≡ record (seen self.old) { first = (seen self.new).first; facts = after_declaration F.value kind
+            (is_none (seen self.new).first) (seen self.old).facts items.now }) }
     {
         self.require(is_continuous(kind), ErrorKind::Discrete, at);
         let given = self.declared_items(kind, items)?;
@@ -55,7 +58,9 @@ impl<'s, F: ExactField> Checker<'s, F> {
     /// given.
     fn declared_items(&mut self, kind: DeclKind, items: &[Decl<F>]) -> Result<Vec<u32>, AllocError>
         ensures noted { OnOk result (seen self.new
-            ≡ record (seen self.old) { first = sooner (seen self.old).first (first_error (declaration_errors (known_of F.value (seen self.old)) kind items.now)); facts = trial_facts F.value (seen self.old).solvers kind (seen self.old).facts items.now }) }
+            ≡ record (seen self.old) { first = sooner (seen self.old).first
+            (first_error (declaration_errors (known_of F.value (seen self.old)) kind items.now)); facts = trial_facts F.value
+            (seen self.old).solvers kind (seen self.old).facts items.now }) }
         ensures given { IfOk result (λ given. given.items ≡ trial_names F.value (seen self.old).solvers kind (seen self.old).facts items.now) }
     {
         let mut given = Vec::new(self.alloc);
@@ -74,7 +79,8 @@ impl<'s, F: ExactField> Checker<'s, F> {
         ensures sound { IfOk result (λ sound. sound
             ≡ is_faultless (errors_of (known_of F.value (seen self.old)) (item_uses (known_of F.value (seen self.old)) kind item.now))) }
         ensures noted { IfOk result (λ sound. seen self.new
-            ≡ with_facts (noted F.value (seen self.old) (item_uses (known_of F.value (seen self.old)) kind item.now)) (after_item F.value kind sound (seen self.old).facts item.now)) }
+            ≡ with_facts (noted F.value (seen self.old) (item_uses (known_of F.value (seen self.old)) kind item.now))
+            (after_item F.value kind sound (seen self.old).facts item.now)) }
     {
         let before = self.take_first();
         let given = self.item(kind, item)?;
@@ -94,7 +100,8 @@ impl<'s, F: ExactField> Checker<'s, F> {
     fn item(&mut self, kind: DeclKind, item: &Decl<F>) -> Result<Data<F>, AllocError>
         ensures noted { OnOk result (seen self.new
             ≡ noted F.value (seen self.old) (item_uses (known_of F.value (seen self.old)) kind item.now)) }
-        ensures given { IfOk result (λ given. is_faultless (errors_of (known_of F.value (seen self.old)) (item_uses (known_of F.value (seen self.old)) kind item.now)) ≡ true
+        ensures given { IfOk result (λ given. is_faultless
+            (errors_of (known_of F.value (seen self.old)) (item_uses (known_of F.value (seen self.old)) kind item.now)) ≡ true
             → expanded (seen self.old).facts.state (positions_of kind (names_of item.now.domain)) item.now.items ≡ Ok given.items) }
     {
         let positions = positions(self.alloc, kind, item.domain.as_slice())?;

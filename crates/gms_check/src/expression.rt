@@ -103,7 +103,9 @@ impl<'s, F: ExactField> Checker<'s, F> {
         indices: &[Index<F>],
     ) -> Result<bool, AllocError>
         ensures noted { OnOk result (seen self.new
-            ≡ noted F.value (seen self.old) ((at, reading context (seen self.old).controlled name suffix (index_list indices.now)) ∷ amount_uses (seen self.old).controlled (index_list indices.now))) }
+            ≡ noted F.value (seen self.old)
+            ((at, reading context (seen self.old).controlled name suffix (index_list indices.now)) ∷ amount_uses
+            (seen self.old).controlled (index_list indices.now))) }
         ensures variable { IfOk result (λ variable. variable ≡ is_variable_by (known_of F.value (seen self.old)) name suffix) }
     {
         let named = Named { at, name };
@@ -124,7 +126,9 @@ impl<'s, F: ExactField> Checker<'s, F> {
         outer: usize,
     ) -> Result<bool, AllocError>
         ensures noted { OnOk result (seen self.new
-            ≡ with_sets (noted F.value (seen self.old) ((at, folding context op (tree_of body.now)) ∷ uses (as_inner context) at (seen self.old).controlled (tree_of body.now))) (take outer (seen self.old).controlled)) }
+            ≡ with_sets (noted F.value (seen self.old)
+            ((at, folding context op (tree_of body.now)) ∷ uses (as_inner context) at (seen self.old).controlled
+            (tree_of body.now))) (take outer (seen self.old).controlled)) }
         ensures variable { IfOk result (λ variable. variable ≡ has_variable (known_of F.value (seen self.old)) (tree_of body.now)) }
     {
         self.require(context.numbers, ErrorKind::WrongKind, at);
@@ -142,7 +146,8 @@ impl<'s, F: ExactField> Checker<'s, F> {
         context: Context,
         around: Place,
     ) -> Result<bool, AllocError>
-        ensures noted { OnOk result (seen self.new ≡ noted F.value (seen self.old) (part_uses context around (seen self.old).controlled (plain_list parts.now))) }
+        ensures noted { OnOk result (seen self.new ≡
+            noted F.value (seen self.old) (part_uses context around (seen self.old).controlled (plain_list parts.now))) }
         ensures variable { IfOk result (λ variable. variable ≡ have_variable (known_of F.value (seen self.old)) (plain_list parts.now)) }
     {
         let mut variable = false;
@@ -177,7 +182,9 @@ impl<'s, F: ExactField> Checker<'s, F> {
         args: &[Expr<F>],
     ) -> Result<bool, AllocError>
         ensures noted { OnOk result (seen self.new
-            ≡ noted F.value (seen self.old) ((at, calling context function (plain_list args.now)) ∷ part_uses (as_inner context) at (seen self.old).controlled (plain_list args.now))) }
+            ≡ noted F.value (seen self.old)
+            ((at, calling context function (plain_list args.now)) ∷ part_uses (as_inner context) at (seen self.old).controlled
+            (plain_list args.now))) }
         ensures variable { IfOk result (λ variable. variable ≡ have_variable (known_of F.value (seen self.old)) (plain_list args.now)) }
     {
         self.require(context.numbers, ErrorKind::WrongKind, at);
@@ -192,7 +199,9 @@ impl<'s, F: ExactField> Checker<'s, F> {
     #[cycle(expression)]
     pub fn control(&mut self, control: &Control<F>, at: Place) -> Result<(), AllocError>
         ensures { OnOk result (seen self.new
-            ≡ with_controlled (noted F.value (seen self.old) (control_uses at (seen self.old).controlled (control_tree control.now))) (sets_of_control (control_tree control.now))) }
+            ≡ with_controlled (noted F.value (seen self.old)
+            (control_uses at (seen self.old).controlled (control_tree control.now)))
+            (sets_of_control (control_tree control.now))) }
     {
         self.control_sets(control.sets.as_slice(), at)?;
         if let Some(condition) = &control.condition {
@@ -208,7 +217,9 @@ impl<'s, F: ExactField> Checker<'s, F> {
         parts: &[(Place, bool, Expr<F>)],
         context: Context,
     ) -> Result<bool, AllocError>
-        ensures noted { OnOk result (seen self.new ≡ noted F.value (seen self.old) (part_uses (as_part context) in_no_place (seen self.old).controlled (signed_list parts.now))) }
+        ensures noted { OnOk result (seen self.new ≡
+            noted F.value (seen self.old)
+            (part_uses (as_part context) in_no_place (seen self.old).controlled (signed_list parts.now))) }
         ensures variable { IfOk result (λ variable. variable ≡ have_variable (known_of F.value (seen self.old)) (signed_list parts.now)) }
     {
         let mut variable = false;
@@ -226,7 +237,9 @@ impl<'s, F: ExactField> Checker<'s, F> {
         context: Context,
     ) -> Result<bool, AllocError>
         ensures noted { OnOk result (seen self.new
-            ≡ noted F.value (seen self.old) (part_uses (as_part context) in_no_place (seen self.old).controlled (signed_list parts.now) ++ steps context in_no_place (signed_list parts.now))) }
+            ≡ noted F.value (seen self.old)
+            (part_uses (as_part context) in_no_place (seen self.old).controlled (signed_list parts.now) ++
+            steps context in_no_place (signed_list parts.now))) }
         ensures variable { IfOk result (λ variable. variable ≡ have_variable (known_of F.value (seen self.old)) (signed_list parts.now)) }
     {
         let mut earlier = false;
@@ -249,7 +262,9 @@ impl<'s, F: ExactField> Checker<'s, F> {
     #[cycle(expression)]
     fn power(&mut self, parts: &[(Place, Expr<F>)], context: Context) -> Result<bool, AllocError>
         ensures noted { OnOk result (seen self.new
-            ≡ noted F.value (seen self.old) (part_uses (as_part context) in_no_place (seen self.old).controlled (placed_list parts.now) ++ steps context in_no_place (placed_list parts.now))) }
+            ≡ noted F.value (seen self.old)
+            (part_uses (as_part context) in_no_place (seen self.old).controlled (placed_list parts.now) ++
+            steps context in_no_place (placed_list parts.now))) }
         ensures variable { IfOk result (λ variable. variable ≡ have_variable (known_of F.value (seen self.old)) (placed_list parts.now)) }
     {
         let mut earlier = false;

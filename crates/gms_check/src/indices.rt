@@ -105,7 +105,8 @@ pub fn has_uncontrolled(controlled: &Controlled, sets: &[u32]) -> bool
 
 /// Whether some index set does not fit its position of a name.
 pub fn has_unfit_set<F: ExactField>(known: &Known<F>, name: u32, indices: &[Index<F>]) -> bool
-    ensures { result ≡ have_unfit_set known.now.state (names known.now) (above_of known.now.declared) name (positions known.now.state name) (index_list indices.now) }
+    ensures { result ≡ have_unfit_set known.now.state (names known.now) (above_of known.now.declared) name
+        (positions known.now.state name) (index_list indices.now) }
 {
     for (place, index) in indices.iter().enumerate() {
         if let Index::Set { name: set, .. } = index

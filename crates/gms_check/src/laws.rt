@@ -57,7 +57,8 @@ pub fn reference_laws<F: ExactField>()
 /// loop: each set among its indices has one dimension, and each amount of a lag is a number or a
 /// scalar, which is the same at all elements.
 pub fn left_laws<F: ExactField>()
-    ensures { (program : Program F) (solvers : List (List ℕ)) (before : List (Stmt F)) (outer inner : Stmt F) (depth : ℕ) (target : Target F) (condition : Option (Expr F)) (right_at : Place) (right : Expr F) →
+    ensures { (program : Program F) (solvers : List (List ℕ)) (before : List (Stmt F)) (outer inner : Stmt F) (depth : ℕ)
+        (target : Target F) (condition : Option (Expr F)) (right_at : Place) (right : Expr F) →
         compile_errors F.value program solvers ≡ [] → FollowsIn program before outer → IsNestedIn depth inner outer →
         inner.act ≡ Assign target condition right_at (Value right) →
         AreTargetIndices (known_after F.value program solvers (sound before)).state (index_list target.indices) }

@@ -35,9 +35,11 @@ impl<'s, F: ExactField> Checker<'s, F> {
 
     /// Checks a declaration of models, and declares them.
     pub fn models(&mut self, models: &[ModelDecl]) -> Result<(), AllocError>
-        ensures first { OnOk result ((seen self.new).first ≡ sooner (seen self.old).first (first_error (model_errors (known_of F.value (seen self.old)) models.now))) }
+        ensures first { OnOk result ((seen self.new).first ≡
+            sooner (seen self.old).first (first_error (model_errors (known_of F.value (seen self.old)) models.now))) }
         ensures facts { OnOk result
-            (seen self.new ≡ record (seen self.old) { first = (seen self.new).first; facts = with_models (is_none (seen self.new).first) (with_model_names (seen self.old).facts models.now) models.now }) }
+            (seen self.new ≡ record (seen self.old) { first = (seen self.new).first; facts = with_models
+            (is_none (seen self.new).first) (with_model_names (seen self.old).facts models.now) models.now }) }
     {
         self.declare_models(models)?;
         let sound = self.first.is_none();
@@ -50,7 +52,9 @@ impl<'s, F: ExactField> Checker<'s, F> {
     /// Checks models in sequence, and declares their names.
     fn declare_models(&mut self, models: &[ModelDecl]) -> Result<(), AllocError>
         ensures { OnOk result (seen self.new
-            ≡ record (seen self.old) { first = sooner (seen self.old).first (first_error (model_errors (known_of F.value (seen self.old)) models.now)); facts = with_model_names (seen self.old).facts models.now }) }
+            ≡ record (seen self.old) { first = sooner (seen self.old).first
+            (first_error (model_errors (known_of F.value (seen self.old)) models.now)); facts = with_model_names
+            (seen self.old).facts models.now }) }
     {
         for model in models {
             self.model(model);
@@ -73,7 +77,9 @@ impl<'s, F: ExactField> Checker<'s, F> {
     /// Remembers the equations of a model: none if its statement has an error.
     fn list_model(&mut self, model: &ModelDecl, sound: bool) -> Result<(), AllocError>
         ensures { OnOk result (seen self.new
-            ≡ with_facts (seen self.old) (with_model (seen self.old).facts model.now.named.name (equations_listed (seen self.old).facts.equations sound model.now))) }
+            ≡ with_facts (seen self.old)
+            (with_model (seen self.old).facts model.now.named.name
+            (equations_listed (seen self.old).facts.equations sound model.now))) }
     {
         let name = model.named.name;
         if !sound {
@@ -92,7 +98,9 @@ impl<'s, F: ExactField> Checker<'s, F> {
     /// Checks a solve.
     pub fn solve(&mut self, model: Named, method: &Word, objective: Named)
         ensures { seen self.new
-            ≡ noted F.value (seen self.old) ((model.at, solving model.name) ∷ (method.now.at, using_word method.now.text) ∷ (objective.at, optimizing objective.name) ∷ []) }
+            ≡ noted F.value (seen self.old)
+            ((model.at, solving model.name) ∷ (method.now.at, using_word method.now.text) ∷
+            (objective.at, optimizing objective.name) ∷ []) }
     {
         self.solved_model(model);
         let linear = is_word(method.text.as_slice(), "lp");

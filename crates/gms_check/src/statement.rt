@@ -37,7 +37,8 @@ impl<'s, F: ExactField> Checker<'s, F> {
         requires controlled { (seen self.old).controlled ≡ [] }
         ensures first { OnOk result ((seen self.new).first ≡ statement_error (known_of F.value (seen self.old)) statement.now) }
         ensures facts { OnOk result (seen self.new
-            ≡ record (seen self.old) { first = (seen self.new).first; facts = facts_after F.value (seen self.old).facts statement.now.act (is_none (seen self.new).first) }) }
+            ≡ record (seen self.old) { first = (seen self.new).first; facts = facts_after F.value
+            (seen self.old).facts statement.now.act (is_none (seen self.new).first) }) }
     {
         match &statement.act {
             Act::Declare { kind, items } => {
@@ -117,7 +118,10 @@ impl<'s, F: ExactField> Checker<'s, F> {
         control: &Control<F>,
     ) -> Result<(), AllocError>
         ensures { OnOk result (seen self.new
-            ≡ noted F.value (seen self.old) (control_uses at (seen self.old).controlled (control_tree control.now) ++ flat_map (λ statement. statement_uses statement (seen self.old).facts.state ((seen self.old).controlled ++ sets_of_control (control_tree control.now))) body.now)) }
+            ≡ noted F.value (seen self.old)
+            (control_uses at (seen self.old).controlled (control_tree control.now) ++
+            flat_map (λ statement. statement_uses statement (seen self.old).facts.state
+            ((seen self.old).controlled ++ sets_of_control (control_tree control.now))) body.now)) }
     {
         let outer = self.controlled.len();
         self.control(control, at)?;
@@ -138,7 +142,11 @@ impl<'s, F: ExactField> Checker<'s, F> {
         right: &Expr<F>,
     ) -> Result<(), AllocError>
         ensures { OnOk result (seen self.new
-            ≡ noted F.value (seen self.old) ((target.now.at, assigning target.now.name target.now.suffix (index_list target.now.indices)) ∷ (left_uses at (with_left (seen self.old).controlled target.now.indices) target.now.indices condition.now ++ uses (right_context (seen self.old).facts.state target.now.name) right_at (with_left (seen self.old).controlled target.now.indices) (tree_of right.now)))) }
+            ≡ noted F.value (seen self.old)
+            ((target.now.at, assigning target.now.name target.now.suffix (index_list target.now.indices)) ∷
+            (left_uses at (with_left (seen self.old).controlled target.now.indices) target.now.indices condition.now ++
+            uses (right_context (seen self.old).facts.state target.now.name) right_at
+            (with_left (seen self.old).controlled target.now.indices) (tree_of right.now)))) }
     {
         let outer = self.controlled.len();
         self.left_of_assignment(at, target, condition)?;
@@ -157,7 +165,10 @@ impl<'s, F: ExactField> Checker<'s, F> {
         condition: &Option<Expr<F>>,
     ) -> Result<(), AllocError>
         ensures { OnOk result (seen self.new
-            ≡ with_controlled (noted F.value (seen self.old) ((target.now.at, assigning target.now.name target.now.suffix (index_list target.now.indices)) ∷ left_uses at (with_left (seen self.old).controlled target.now.indices) target.now.indices condition.now)) (index_sets (index_list target.now.indices))) }
+            ≡ with_controlled (noted F.value (seen self.old)
+            ((target.now.at, assigning target.now.name target.now.suffix (index_list target.now.indices)) ∷ left_uses at
+            (with_left (seen self.old).controlled target.now.indices) target.now.indices condition.now))
+            (index_sets (index_list target.now.indices))) }
     {
         self.target(target)?;
         self.control_indices(target.indices.as_slice())?;
@@ -186,7 +197,9 @@ impl<'s, F: ExactField> Checker<'s, F> {
         right: &Expr<F>,
     ) -> Result<(), AllocError>
         ensures { OnOk result (seen self.new
-            ≡ noted F.value (with_sets (seen self.old) (take outer (seen self.old).controlled)) (uses as_side left_at (seen self.old).controlled (tree_of left.now) ++ uses as_side right_at (seen self.old).controlled (tree_of right.now))) }
+            ≡ noted F.value (with_sets (seen self.old) (take outer (seen self.old).controlled))
+            (uses as_side left_at (seen self.old).controlled (tree_of left.now) ++
+            uses as_side right_at (seen self.old).controlled (tree_of right.now))) }
     {
         let _left = self.expression(left, Context::SIDE, left_at)?;
         let _right = self.expression(right, Context::SIDE, right_at)?;
@@ -204,7 +217,10 @@ impl<'s, F: ExactField> Checker<'s, F> {
         condition: &Option<Expr<F>>,
     ) -> Result<(), AllocError>
         ensures { OnOk result (seen self.new
-            ≡ with_controlled (noted F.value (seen self.old) ((equation.at, defining equation.name (index_list indices.now)) ∷ left_uses at (with_left (seen self.old).controlled indices.now) indices.now condition.now)) (index_sets (index_list indices.now))) }
+            ≡ with_controlled (noted F.value (seen self.old)
+            ((equation.at, defining equation.name (index_list indices.now)) ∷ left_uses at
+            (with_left (seen self.old).controlled indices.now) indices.now condition.now))
+            (index_sets (index_list indices.now))) }
     {
         self.defined_equation(equation, indices)?;
         self.control_indices(indices)?;

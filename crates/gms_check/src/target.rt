@@ -118,7 +118,8 @@ impl<'s, F: ExactField> Checker<'s, F> {
     /// Whether a name without suffix, with indices or without, is that of a scalar or of a
     /// variable.
     fn may_shift(&self, name: u32, bare: bool) -> bool
-        ensures { result ≡ may_shift (declared_kind (seen self.now).facts.state name) (is_without_positions (positions (seen self.now).facts.state name) && bare) }
+        ensures { result ≡ may_shift (declared_kind (seen self.now).facts.state name)
+            (is_without_positions (positions (seen self.now).facts.state name) && bare) }
     {
         match self.known.kind(name) {
             SymbolKind::Parameter => self.known.position_count(name) == 0 && bare,

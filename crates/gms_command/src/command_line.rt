@@ -118,7 +118,9 @@ fn source_of<'a>(
     size: Option<&'a str>,
     saved: Option<&'a str>,
 ) -> Option<Source<'a>>
-    ensures { option_map origin result ≡ origin_of (option_map (λ name. name.now) file.entry) (option_map (λ text. text.now) size.entry) (option_map (λ name. name.now) saved.entry) }
+    ensures { option_map origin result ≡
+        origin_of (option_map (λ name. name.now) file.entry) (option_map (λ text. text.now) size.entry)
+        (option_map (λ name. name.now) saved.entry) }
 {
     match (file, size, saved) {
         (Some(file), None, None) => Some(Source::File(file)),
@@ -275,7 +277,8 @@ pub fn range_line(
     low: Option<&str>,
     high: Option<&str>,
 ) -> Result<String, AllocError>
-    ensures { IfOk result (λ line. string_bytes line ≡ range_line what.now element.now (option_map (λ text. text.now) low.entry) (option_map (λ text. text.now) high.entry)) }
+    ensures { IfOk result (λ line. string_bytes line ≡
+        range_line what.now element.now (option_map (λ text. text.now) low.entry) (option_map (λ text. text.now) high.entry)) }
 {
     let from = low.unwrap_or("-INF");
     let to = high.unwrap_or("+INF");

@@ -60,7 +60,8 @@ fn push_line<F: ExactField>(
     range: Option<Interval<F>>,
     text: &mut String,
 ) -> Result<(), AllocError>
-    ensures { OnOk result (string_bytes text.new ≡ string_bytes text.old ++ span_line what.now (range_key_text names.now labels.now key.now) (span_value F.value range)) }
+    ensures { OnOk result (string_bytes text.new ≡ string_bytes text.old ++
+        span_line what.now (range_key_text names.now labels.now key.now) (span_value F.value range)) }
 {
     let element = element(alloc, names, labels, key.symbol, &key.tuple)?;
     let line = line_of(alloc, what, element.as_str(), range)?;
@@ -86,7 +87,8 @@ fn push_right<F: ExactField>(
     range: Option<Interval<F>>,
     text: &mut String,
 ) -> Result<(), AllocError>
-    ensures { OnOk result (string_bytes text.new ≡ string_bytes text.old ++ right_line names.now labels.now (row_numbers F.value row.now) (span_value F.value range)) }
+    ensures { OnOk result (string_bytes text.new ≡ string_bytes text.old ++
+        right_line names.now labels.now (row_numbers F.value row.now) (span_value F.value range)) }
 {
     match row.sense {
         Sense::N => Ok(()),
@@ -103,7 +105,8 @@ pub(crate) fn push_rights<F: ExactField>(
     ranges: &[Option<Interval<F>>],
     text: &mut String,
 ) -> Result<(), AllocError>
-    ensures { OnOk result (string_bytes text.new ≡ string_bytes text.old ++ right_lines names.now labels.now (map (row_numbers F.value) rows.now) (map (span_value F.value) ranges.now)) }
+    ensures { OnOk result (string_bytes text.new ≡ string_bytes text.old ++
+        right_lines names.now labels.now (map (row_numbers F.value) rows.now) (map (span_value F.value) ranges.now)) }
 {
     for (place, row) in rows.iter().enumerate() {
         push_right(alloc, names, labels, row, range_at(ranges, place), text)?;
@@ -120,7 +123,8 @@ pub(crate) fn push_costs<F: ExactField>(
     ranges: &[Option<Interval<F>>],
     text: &mut String,
 ) -> Result<(), AllocError>
-    ensures { OnOk result (string_bytes text.new ≡ string_bytes text.old ++ cost_lines names.now labels.now (map (column_numbers F.value) columns.now) (map (span_value F.value) ranges.now)) }
+    ensures { OnOk result (string_bytes text.new ≡ string_bytes text.old ++
+        cost_lines names.now labels.now (map (column_numbers F.value) columns.now) (map (span_value F.value) ranges.now)) }
 {
     for (place, column) in columns.iter().enumerate() {
         let range = range_at(ranges, place);

@@ -31,7 +31,9 @@ fn push_optimum<F: ExactField>(
     requires is_answer { IsAnswer F.value F.limit lp.now (length answer.now.pivots) Legal answer.now }
     requires optimal { IsOptimum answer.now }
     ensures { OnOk result ((last : Dictionary) × LeadTo F.value F.limit lp.now answer.now.pivots last
-        × (string_bytes text.new ≡ string_bytes text.old ++ spans_text names.now labels.now solve (lp_numbers F.value lp.now) (rights F.value F.limit lp.now last) (costs F.value F.limit lp.now last))) }
+        × (string_bytes text.new ≡ string_bytes text.old ++
+        spans_text names.now labels.now solve (lp_numbers F.value lp.now) (rights F.value F.limit lp.now last)
+        (costs F.value F.limit lp.now last))) }
 {
     let found = ranges(alloc, lp, answer)?;
     let head = ranges_line(alloc, solve)?;
@@ -77,7 +79,8 @@ pub fn ranges_text<F: ExactField>(
     answers: &[Answer<F>],
 ) -> Result<String, AllocError>
     requires { AreSomeAnswers F.value F.limit solved.now answers.now }
-    ensures { IfOk result (λ text. SaysRanges names.now labels.now F.limit 1 (map (lp_numbers F.value) solved.now) (map (answer_numbers F.value) answers.now) (string_bytes text)) }
+    ensures { IfOk result (λ text. SaysRanges names.now labels.now F.limit 1 (map (lp_numbers F.value) solved.now)
+        (map (answer_numbers F.value) answers.now) (string_bytes text)) }
 {
     let mut text = String::new(alloc);
     for (place, answer) in answers.iter().enumerate() {

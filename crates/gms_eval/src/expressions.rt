@@ -119,7 +119,8 @@ fn referred<F: ExactField>(
     b: &Binding,
 ) -> Result<Ext<F>, ExecStopOrMemory<F>>
     ensures { Gives F.value (extended F.value) result
-        ((in_order (map (λ index. label_answer F.value F.limit store.now b.now index) indices.now) and_then λ those. Ok (tuple_of those)) and_then entry_or_zero F.limit store.now b.now at name suffix) }
+        ((in_order (map (λ index. label_answer F.value F.limit store.now b.now index) indices.now) and_then
+        λ those. Ok (tuple_of those)) and_then entry_or_zero F.limit store.now b.now at name suffix) }
 {
     let tuple = tuple_of(alloc, store, indices, b)?;
     entry_of(alloc, store, at, name, suffix, tuple, b)
@@ -412,7 +413,8 @@ fn chosen<F: ExactField>(
 ) -> Result<Vec<Tuple>, ExecStopOrMemory<F>>
     requires { IsCounted store.now sets.now among.now }
     ensures { Gives F.value (λ those. those.items) result
-        (those_where (λ element. holds F.value F.limit store.now (controlled b.now sets.now element) (tree_of condition.now)) (those_of store.now sets.now among.now)) }
+        (those_where (λ element. holds F.value F.limit store.now (controlled b.now sets.now element) (tree_of condition.now))
+        (those_of store.now sets.now among.now)) }
 {
     let mut those = Vec::new(alloc);
     let mut inner = b.copy(alloc)?;
@@ -440,7 +442,8 @@ fn folded<F: ExactField>(
 ) -> Result<Ext<F>, ExecStopOrMemory<F>>
     requires { IsCounted store.now sets.now those.now }
     ensures { Gives F.value (extended F.value) result (folded F.limit b.now op at
-        (map (λ element. (plain, value F.value F.limit store.now (controlled b.now sets.now element) (tree_of body.now))) (those_of store.now sets.now those.now))) }
+        (map (λ element. (plain, value F.value F.limit store.now (controlled b.now sets.now element) (tree_of body.now)))
+        (those_of store.now sets.now those.now))) }
 {
     let mut so_far = start(op);
     let mut inner = b.copy(alloc)?;

@@ -279,7 +279,8 @@ impl<'s, F: ExactField> Assignment<'s, F> {
         b: &Binding,
     ) -> Result<Vec<(Tuple, Given<F>)>, ExecStopOrMemory<F>>
         ensures { Gives F.value (λ all. all_given_in F.value all.items) result
-            (in_order (map (λ element. element_under F.value F.limit store.now (target_of self.now.target.now) self.now.right_at (tree_of self.now.right.now) (controlled b.now sets.now element)) elements.now)
+            (in_order (map (λ element. element_under F.value F.limit store.now (target_of self.now.target.now) self.now.right_at
+            (tree_of self.now.right.now) (controlled b.now sets.now element)) elements.now)
             and_then λ given. Ok (given_elements F.value F.limit store.now given)) }
     {
         let mut all = Vec::new(alloc);

@@ -57,7 +57,8 @@ pub fn assignment_laws()
 /// nothing that an element is given is lost, and the order in which elements are given has no
 /// effect (GAMS User's Guide, "Data Manipulations with Parameters", indexed assignments).
 pub fn once_laws<F: ExactField>()
-    ensures { (state : State) (at : Place) (binding : Pairs) (target : Target F) (condition : Option (Tree F)) (right_at : Place) (right : Tree F) (given : AllGiven) →
+    ensures { (state : State) (at : Place) (binding : Pairs) (target : Target F) (condition : Option (Tree F)) (right_at : Place)
+        (right : Tree F) (given : AllGiven) →
         AreLeft state target.indices →
         given_by F.value F.limit state at binding target condition right_at right ≡ Ok given →
         IsOnce given }
@@ -79,7 +80,8 @@ pub fn solve_laws()
         slice_get (row_keys lp) i ≡ Some key → slice_get row_levels i ≡ Some x → slice_get duals i ≡ Some d →
         attributes_of (after_end state model lp (Optimal levels row_levels duals reduced)) key.symbol key.tuple
         ≡ with_marginal (with_level (attributes_of state key.symbol key.tuple) x) d }
-    ensures feasible_column { (state : State) (model : ℕ) (lp : Lp Number) (end : End Number) (levels row_levels : List Number) (j : ℕ) (key : Key) (x : Number) →
+    ensures feasible_column { (state : State) (model : ℕ) (lp : Lp Number) (end : End Number) (levels row_levels : List Number)
+        (j : ℕ) (key : Key) (x : Number) →
         AreElements state (program_elements lp) →
         feasible_levels end ≡ Some (levels, row_levels) →
         slice_get (keys_of_columns lp) j ≡ Some key → slice_get levels j ≡ Some x →

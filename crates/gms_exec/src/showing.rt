@@ -170,7 +170,9 @@ fn over_all<F: ExactField>(
     suffix: Suffix,
 ) -> Result<Entries<F>, AllocError>
     requires { size ≡ length (elements_at name_domain.now.labels name_domain.now.store.now name_domain.now.positions.now) }
-    ensures { IfOk result (λ entries. entries_in F.value entries.items ≡ entries_shown store.now name suffix (elements_at name_domain.now.labels name_domain.now.store.now name_domain.now.positions.now)) }
+    ensures { IfOk result (λ entries. entries_in F.value entries.items ≡
+        entries_shown store.now name suffix
+        (elements_at name_domain.now.labels name_domain.now.store.now name_domain.now.positions.now)) }
 {
     let mut entries = Vec::new(alloc);
     for number in 0..size {
@@ -191,7 +193,8 @@ fn bounds<F: ExactField>(
     b: &Binding,
 ) -> Result<Entries<F>, ExecStopOrMemory<F>>
     ensures { Gives F.value (λ entries. entries_in F.value entries.items) result
-        (sized named.at b.now (elements_at labels store.now (symbol_of store.now named.name).domain) and_then λ tuples. Ok (entries_shown store.now named.name suffix tuples)) }
+        (sized named.at b.now (elements_at labels store.now (symbol_of store.now named.name).domain) and_then
+        λ tuples. Ok (entries_shown store.now named.name suffix tuples)) }
 {
     let name_domain = NameDomain::new(store, labels, named.name);
     let size = name_domain.count();

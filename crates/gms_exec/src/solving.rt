@@ -83,7 +83,9 @@ fn put_columns<F: ExactField>(
     levels: &[F],
     marginals: &[F],
 ) -> Result<(), AllocError>
-    ensures { OnOk result (store.new ≡ fold with_point store.old (points (keys_of_columns (lp_numbers F.value lp.now)) (map F.value levels.now) (map F.value marginals.now))) }
+    ensures { OnOk result (store.new ≡
+        fold with_point store.old
+        (points (keys_of_columns (lp_numbers F.value lp.now)) (map F.value levels.now) (map F.value marginals.now))) }
 {
     for (place, column) in lp.columns.as_slice().iter().enumerate() {
         let level = number_at(levels, place);
@@ -101,7 +103,9 @@ fn put_rows<F: ExactField>(
     levels: &[F],
     marginals: &[F],
 ) -> Result<(), AllocError>
-    ensures { OnOk result (store.new ≡ fold with_point store.old (points (row_keys (lp_numbers F.value lp.now)) (map F.value levels.now) (map F.value marginals.now))) }
+    ensures { OnOk result (store.new ≡
+        fold with_point store.old
+        (points (row_keys (lp_numbers F.value lp.now)) (map F.value levels.now) (map F.value marginals.now))) }
 {
     for (place, row) in lp.rows.as_slice().iter().enumerate() {
         let level = number_at(levels, place);
@@ -187,7 +191,8 @@ fn solve_at(
     ensures named { IfOk result (λ r. r.1.items ≡ slice_index_or (map name solvers.old.items) place []) }
     ensures names { map name solvers.new.items ≡ map name solvers.old.items }
     ensures rules { map rule solvers.new.items ≡ map rule solvers.old.items }
-    ensures paths { IfOk result (λ r. (k : ℕ) → slice_get (map paths solvers.new.items) k ≡ option_map (λ before. before ++ path_at place r.0.pivots k) (slice_get (map paths solvers.old.items) k)) }
+    ensures paths { IfOk result (λ r. (k : ℕ) → slice_get (map paths solvers.new.items) k ≡
+        option_map (λ before. before ++ path_at place r.0.pivots k) (slice_get (map paths solvers.old.items) k)) }
 {
     solve_one(alloc, &mut solvers[place], lp, iterlim)
 }
@@ -250,7 +255,8 @@ fn solve_program(
 ) -> Result<(), AllocError>
     requires formed { IsWellFormed frac_value lp }
     requires there { store.old.settings.solver < length solvers.old.items }
-    ensures solves { OnOk result (Solves frac_value (2 ^ 127 - 1) (map name solvers.old.items) (map rule solvers.old.items) (map paths solvers.old.items) (map paths solvers.new.items)
+    ensures solves { OnOk result (Solves frac_value (2 ^ 127 - 1) (map name solvers.old.items) (map rule solvers.old.items)
+        (map paths solvers.old.items) (map paths solvers.new.items)
         s.at.line s.model (equations_of program.now.statements.items s.model) s.objective lp
         (record { state = store.old; events = events.old.items; answers = answers.old.items })
         (record { state = store.new; events = events.new.items; answers = answers.new.items })) }
@@ -285,13 +291,16 @@ pub(crate) fn solve_model(
 ) -> Result<(), ExecStopOrMemory<Frac>>
     requires chosen { 0 < length solvers.old.items → store.old.settings.solver < length solvers.old.items }
     requires plain { HasPlainDefinitions store.old program.now.statements.items }
-    ensures runs { Runs frac_value result (solve frac_value (2 ^ 127 - 1) (map name solvers.old.items) program.now.statements.items s.model s.objective s.maximize s.at b.now)
+    ensures runs { Runs frac_value result
+        (solve frac_value (2 ^ 127 - 1)
+        (map name solvers.old.items) program.now.statements.items s.model s.objective s.maximize s.at b.now)
         (record { state = store.old; events = events.old.items; answers = answers.old.items })
         (record { state = store.new; events = events.new.items; answers = answers.new.items }) }
     ensures solvers { UnlessMemory result (Answered frac_value (2 ^ 127 - 1) name rule paths solvers.old.items solvers.new.items
         (record { state = store.old; events = events.old.items; answers = answers.old.items })
         (record { state = store.new; events = events.new.items; answers = answers.new.items })) }
-    ensures valid { UnlessMemory result (ShowsValidEvents frac_value (2 ^ 127 - 1) (map rule solvers.old.items) answers.new.items events.old.items events.new.items) }
+    ensures valid { UnlessMemory result (ShowsValidEvents frac_value (2 ^ 127 - 1)
+        (map rule solvers.old.items) answers.new.items events.old.items events.new.items) }
 {
     if solvers.is_empty() {
         return Err(stopped(alloc, StopKind::NoSolver, s.at, b));

@@ -57,13 +57,16 @@ pub fn step(
     requires decimals { store.old.settings.decimals ≤ 8 }
     requires chosen { 0 < length solvers.old.items → store.old.settings.solver < length solvers.old.items }
     requires plain { AreOneDimensional store.old program.now.statements.items }
-    ensures runs { Runs frac_value result (of_statement frac_value (2 ^ 127 - 1) (record { program = program.now; solvers = map name solvers.old.items }) s.now b.now)
+    ensures runs { Runs frac_value result
+        (of_statement frac_value (2 ^ 127 - 1)
+        (record { program = program.now; solvers = map name solvers.old.items }) s.now b.now)
         (record { state = store.old; events = events.old.items; answers = answers.old.items })
         (record { state = store.new; events = events.new.items; answers = answers.new.items }) }
     ensures solvers { UnlessMemory result (Answered frac_value (2 ^ 127 - 1) name rule paths solvers.old.items solvers.new.items
         (record { state = store.old; events = events.old.items; answers = answers.old.items })
         (record { state = store.new; events = events.new.items; answers = answers.new.items })) }
-    ensures valid { UnlessMemory result (ShowsValidEvents frac_value (2 ^ 127 - 1) (map rule solvers.old.items) answers.new.items events.old.items events.new.items) }
+    ensures valid { UnlessMemory result (ShowsValidEvents frac_value (2 ^ 127 - 1)
+        (map rule solvers.old.items) answers.new.items events.old.items events.new.items) }
     ensures settings { UnlessMemory result (AreValidSettings (length solvers.old.items) store.new.settings) }
     ensures plain { UnlessMemory result (AreOneDimensional store.new program.now.statements.items) }
 {
@@ -99,13 +102,16 @@ fn once(
     requires decimals { store.old.settings.decimals ≤ 8 }
     requires chosen { 0 < length solvers.old.items → store.old.settings.solver < length solvers.old.items }
     requires plain { AreOneDimensional store.old program.now.statements.items }
-    ensures runs { Runs frac_value result (of_statement frac_value (2 ^ 127 - 1) (record { program = program.now; solvers = map name solvers.old.items }) s.now b.now)
+    ensures runs { Runs frac_value result
+        (of_statement frac_value (2 ^ 127 - 1)
+        (record { program = program.now; solvers = map name solvers.old.items }) s.now b.now)
         (record { state = store.old; events = events.old.items; answers = answers.old.items })
         (record { state = store.new; events = events.new.items; answers = answers.new.items }) }
     ensures solvers { UnlessMemory result (Answered frac_value (2 ^ 127 - 1) name rule paths solvers.old.items solvers.new.items
         (record { state = store.old; events = events.old.items; answers = answers.old.items })
         (record { state = store.new; events = events.new.items; answers = answers.new.items })) }
-    ensures valid { UnlessMemory result (ShowsValidEvents frac_value (2 ^ 127 - 1) (map rule solvers.old.items) answers.new.items events.old.items events.new.items) }
+    ensures valid { UnlessMemory result (ShowsValidEvents frac_value (2 ^ 127 - 1)
+        (map rule solvers.old.items) answers.new.items events.old.items events.new.items) }
     ensures settings { UnlessMemory result (AreValidSettings (length solvers.old.items) store.new.settings) }
     ensures plain { UnlessMemory result (AreOneDimensional store.new program.now.statements.items) }
 {
@@ -141,7 +147,9 @@ fn without_solving<F: ExactField>(
     requires no_solve { AsksNoSolver s.now.act }
     requires few { length solvers.now < 2 ^ 32 }
     requires decimals { store.old.settings.decimals ≤ 8 }
-    ensures runs { (answers : List (Answer F)) → Runs F.value result (of_statement F.value F.limit (record { program = program.now; solvers = map name solvers.now }) s.now b.now)
+    ensures runs { (answers : List (Answer F)) →
+        Runs F.value result (of_statement F.value F.limit
+        (record { program = program.now; solvers = map name solvers.now }) s.now b.now)
         (record { state = store.old; events = events.old.items; answers = answers })
         (record { state = store.new; events = events.new.items; answers = answers }) }
     ensures quiet { ShowsNoSolve events.old.items events.new.items }
@@ -270,7 +278,9 @@ fn abort_where<F: ExactField>(
     events: &mut Vec<Event<F>>,
 ) -> Result<(), ExecStopOrMemory<F>>
     requires decimals { store.now.settings.decimals ≤ 8 }
-    ensures runs { (answers : List (Answer F)) → Runs F.value result (abort_where F.value F.limit labels (option_map tree_of (option_copied condition.entry)) items.now at b.now)
+    ensures runs { (answers : List (Answer F)) →
+        Runs F.value result (abort_where F.value F.limit labels
+        (option_map tree_of (option_copied condition.entry)) items.now at b.now)
         (record { state = store.now; events = events.old.items; answers = answers })
         (record { state = store.now; events = events.new.items; answers = answers }) }
     ensures quiet { ShowsNoSolve events.old.items events.new.items }

@@ -43,7 +43,8 @@ impl<'s> Reader<'s> {
     /// Reads a constant.
     pub(crate) fn constant<F: ExactField>(&self, at: usize) -> Read<Expr<F>>
         requires { IsReady self.now }
-        ensures { (tables : Tables) → IsExpression F.limit F.value constant_in (any_of (Number ∷ Infinity ∷ NotAvailable ∷ YesNo ∷ [])) self.now at tables tables result }
+        ensures { (tables : Tables) → IsExpression F.limit F.value constant_in
+            (any_of (Number ∷ Infinity ∷ NotAvailable ∷ YesNo ∷ [])) self.now at tables tables result }
     {
         let (token, following) = self.take_any(
             &[

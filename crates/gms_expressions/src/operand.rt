@@ -71,7 +71,8 @@ impl<
     /// Reads a call of a function.
     fn call(&self, tables: &mut Tables, at: usize) -> Read<Expr<F>>
         requires { CanRead F.limit F.value self.now.reader (N.pre self.now.nested) (N.post self.now.nested) }
-        ensures { IsExpression F.limit F.value trees.function_call (token Function · bracketed (the ExpressionList)) self.now.reader at tables.old tables.new result }
+        ensures { IsExpression F.limit F.value trees.function_call
+            (token Function · bracketed (the ExpressionList)) self.now.reader at tables.old tables.new result }
     {
         let (word, opening) = self.reader.take(Terminal::Function, at)?;
         let (args, next) = self.arguments(tables, opening)?;
@@ -83,7 +84,8 @@ impl<
     /// Reads the expressions in parentheses, with commas between them.
     fn arguments(&self, tables: &mut Tables, at: usize) -> Read<Vec<Expr<F>>>
         requires { CanRead F.limit F.value self.now.reader (N.pre self.now.nested) (N.post self.now.nested) }
-        ensures { IsAnswer F.limit (AreArguments F.value self.now.reader.source.now) (bracketed (the ExpressionList)) self.now.reader at tables.old tables.new result }
+        ensures { IsAnswer F.limit (AreArguments F.value self.now.reader.source.now)
+            (bracketed (the ExpressionList)) self.now.reader at tables.old tables.new result }
     {
         let (inner, start) = self.reader.enter(at)?;
         let mut args = Vec::new(self.reader.alloc);

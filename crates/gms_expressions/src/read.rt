@@ -186,7 +186,9 @@ pub fn target<F: ExactField>(
     requires few { unclosed ≤ 100 }
     ensures read { MatchResult result
         (λ r. IsRead F.limit source.now TargetPart
-        (λ all_names all_labels tree part. reference part.at part.name part.suffix (indices_in_numbers F.value (indices_of (map index_tree part.indices))) ≡ trees.target source.now all_names all_labels tree)
+        (λ all_names all_labels tree part. reference part.at part.name part.suffix
+        (indices_in_numbers F.value (indices_of (map index_tree part.indices))) ≡
+        trees.target source.now all_names all_labels tree)
         (expression_state unclosed names.old labels.old) (expression_state unclosed names.new labels.new)
         (tokens_from source.now tokens.now from) (tokens_from source.now tokens.now r.1) r.0)
         (λ e. IsSyntaxRefusal F.limit source.now TargetPart (expression_state unclosed names.old labels.old) (tokens_from source.now tokens.now from) e) }

@@ -38,7 +38,8 @@ impl<
     /// Reads the indices in parentheses, if any.
     fn indices(&self, tables: &mut Tables, at: usize) -> Read<Vec<Index<F>>>
         requires { CanRead F.limit F.value self.now.reader (N.pre self.now.nested) (N.post self.now.nested) }
-        ensures { IsAnswer F.limit (AreIndices F.value self.now.reader.source.now) (opt (bracketed (the IndexList))) self.now.reader at tables.old tables.new result }
+        ensures { IsAnswer F.limit (AreIndices F.value self.now.reader.source.now)
+            (opt (bracketed (the IndexList))) self.now.reader at tables.old tables.new result }
     {
         let mut indices = Vec::new(self.reader.alloc);
         if !self.reader.is_next(Terminal::LeftParen, at) {

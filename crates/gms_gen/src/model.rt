@@ -24,7 +24,8 @@ fn push_demands(
     markets: u32,
     text: &mut String,
 ) -> Result<u64, AllocError>
-    ensures text { (seed plants : ℕ) → draws.old ≡ seed_after seed 0 → OnOk result (string_bytes text.new ≡ string_bytes text.old ++ demand_lines seed plants markets) }
+    ensures text { (seed plants : ℕ) → draws.old ≡ seed_after seed 0 →
+        OnOk result (string_bytes text.new ≡ string_bytes text.old ++ demand_lines seed plants markets) }
     ensures total { (seed plants : ℕ) → draws.old ≡ seed_after seed 0 → IfOk result (λ sum. sum ≡ total_demand seed plants markets) }
     ensures draws { (seed : ℕ) → draws.old ≡ seed_after seed 0 → OnOk result (draws.new ≡ seed_after seed markets) }
     ensures few { IfOk result (λ sum. sum ≤ 99 * markets) }
@@ -49,7 +50,8 @@ fn push_supplies(
     text: &mut String,
 ) -> Result<(), AllocError>
     requires { demand ≤ 99 * 4294967295 }
-    ensures text { (seed markets : ℕ) → draws.old ≡ seed_after seed markets → demand ≡ total_demand seed plants markets → OnOk result (string_bytes text.new ≡ string_bytes text.old ++ supply_lines seed plants markets) }
+    ensures text { (seed markets : ℕ) → draws.old ≡ seed_after seed markets → demand ≡ total_demand seed plants markets →
+        OnOk result (string_bytes text.new ≡ string_bytes text.old ++ supply_lines seed plants markets) }
     ensures draws { (seed markets : ℕ) → draws.old ≡ seed_after seed markets → OnOk result (draws.new ≡ seed_after seed (markets + plants)) }
 {
     for plant in 0..plants {
@@ -70,7 +72,8 @@ fn push_costs_from(
     text: &mut String,
 ) -> Result<(), AllocError>
     requires { plant < 4294967295 }
-    ensures text { (seed plants : ℕ) → draws.old ≡ seed_after seed (markets + plants + plant * markets) → OnOk result (string_bytes text.new ≡ string_bytes text.old ++ costs_from seed plants markets plant) }
+    ensures text { (seed plants : ℕ) → draws.old ≡ seed_after seed (markets + plants + plant * markets) →
+        OnOk result (string_bytes text.new ≡ string_bytes text.old ++ costs_from seed plants markets plant) }
     ensures draws { (seed before : ℕ) → draws.old ≡ seed_after seed before → OnOk result (draws.new ≡ seed_after seed (before + markets)) }
 {
     let plant = plant + 1;
@@ -91,7 +94,8 @@ fn push_costs(
     markets: u32,
     text: &mut String,
 ) -> Result<(), AllocError>
-    ensures { (seed : ℕ) → draws.old ≡ seed_after seed (markets + plants) → OnOk result (string_bytes text.new ≡ string_bytes text.old ++ transport_cost_lines seed plants markets) }
+    ensures { (seed : ℕ) → draws.old ≡ seed_after seed (markets + plants) →
+        OnOk result (string_bytes text.new ≡ string_bytes text.old ++ transport_cost_lines seed plants markets) }
 {
     for plant in 0..plants {
         push_costs_from(alloc, draws, plant, markets, text)?;

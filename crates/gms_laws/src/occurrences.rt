@@ -24,10 +24,12 @@ use gq_field::ExactField;
 /// GAMS User's Guide, "Data Manipulation"; "Equations"; "Conditional Expressions, Assignments and
 /// Equations"; "Dynamic Sets".
 pub fn occurrence_laws<F: ExactField>()
-    ensures variables { (program : Program F) (solvers : List (List ℕ)) (before : List (Stmt F)) (role : Role) (steps : List ExpressionStep) (at : Place) (name : ℕ) (indices : Indices F) →
+    ensures variables { (program : Program F) (solvers : List (List ℕ)) (before : List (Stmt F)) (role : Role)
+        (steps : List ExpressionStep) (at : Place) (name : ℕ) (indices : Indices F) →
         compile_errors F.value program solvers ≡ [] → OccursIn F.value program before role steps (reference at name suffix.None indices) →
         declared_kind (declared_before F.value program before) name ≡ kind.Variable → MayHaveVariable role steps }
-    ensures sets { (program : Program F) (solvers : List (List ℕ)) (before : List (Stmt F)) (role : Role) (steps : List ExpressionStep) (at : Place) (name : ℕ) (indices : Indices F) →
+    ensures sets { (program : Program F) (solvers : List (List ℕ)) (before : List (Stmt F)) (role : Role)
+        (steps : List ExpressionStep) (at : Place) (name : ℕ) (indices : Indices F) →
         compile_errors F.value program solvers ≡ [] → OccursIn F.value program before role steps (reference at name suffix.None indices) →
         declared_kind (declared_before F.value program before) name ≡ kind.Set → MayHaveSet role steps }
 {}

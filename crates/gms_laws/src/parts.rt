@@ -19,7 +19,8 @@ use gq_field::ExactField;
 /// after the tokens before the part, and `after` the one after its tokens; `rest` are the tokens
 /// after it. A result is compared by the numbers that it means, in whatever field they are stored.
 pub fn part_laws<F: ExactField>()
-    ensures one_part { (limit : ℕ) (source : List ℕ) (n : Nonterminal) (before after later : ExpressionState) (tokens rest others : Tokens) (one other : Derivation) →
+    ensures one_part { (limit : ℕ) (source : List ℕ) (n : Nonterminal) (before after later : ExpressionState)
+        (tokens rest others : Tokens) (one other : Derivation) →
         IsPart limit source n before after tokens rest one → IsPart limit source n before later tokens others other →
         (one ≡ other) × EndAlike after later rest others }
     ensures one_expression { (source : List ℕ) (before after later : ExpressionState) (tokens rest others : Tokens) (one other : Expr F) →
@@ -36,7 +37,8 @@ pub fn part_laws<F: ExactField>()
         (meant_target F.value one ≡ meant_target F.value other) × EndAlike after later rest others }
     ensures one_fault { (limit : ℕ) (source : List ℕ) (n : Nonterminal) (before : ExpressionState) (tokens : Tokens) (one other : SyntaxFault) →
         IsRefusedPart limit source n before tokens one → IsRefusedPart limit source n before tokens other → one ≡ other }
-    ensures not_both { (limit : ℕ) (source : List ℕ) (n : Nonterminal) (before after : ExpressionState) (tokens rest : Tokens) (part : Derivation) (fault : SyntaxFault) →
+    ensures not_both { (limit : ℕ) (source : List ℕ) (n : Nonterminal) (before after : ExpressionState) (tokens rest : Tokens)
+        (part : Derivation) (fault : SyntaxFault) →
         IsPart limit source n before after tokens rest part → IsRefusedPart limit source n before tokens fault → ⊥ }
     ensures not_neither { (limit : ℕ) (source : List ℕ) (n : Nonterminal) (before : ExpressionState) (tokens : Tokens) →
         ((fault : SyntaxFault) → IsRefusedPart limit source n before tokens fault → ⊥) → SomePart limit source n before tokens }

@@ -39,9 +39,11 @@ use gq_field::ExactField;
 /// "Linear Programming", chapters 1, 5 and 9.
 pub fn plan_laws<F: ExactField>()
     ensures start { (world : World F) (rules : List SolverRule) (answers : List (Answer F)) → IsAccepted F.value world.program →
-        AreAnswered F.value F.limit rules answers (run_with_answers F.value F.limit world (loaded F.value world.program) world.program.statements.items answers).events →
+        AreAnswered F.value F.limit rules answers
+        (run_with_answers F.value F.limit world (loaded F.value world.program) world.program.statements.items answers).events →
         AnswersAreSo F.value F.limit world (loaded F.value world.program) world.program.statements.items answers }
-    ensures restarted { (limit : ℕ) (source file : List ℕ) (saved : Program Frac) (world : World Frac) (state : State) (solver : List ℕ) (rules : List SolverRule) (answers : List (Answer Frac)) →
+    ensures restarted { (limit : ℕ) (source file : List ℕ) (saved : Program Frac) (world : World Frac) (state : State)
+        (solver : List ℕ) (rules : List SolverRule) (answers : List (Answer Frac)) →
         IsProgram frac_limit source frac_value saved → IsProgram frac_limit (joint_source source file) frac_value world.program →
         joint_errors frac_value world.program (first_line source) world.solvers ≡ [] → IsSavedBy saved state solver →
         AreAnswered frac_value limit rules answers (run_with_answers frac_value limit world (resumed frac_value state world.program)

@@ -152,7 +152,8 @@ impl Listing {
         lp: &Lp<F>,
         entries: &[(u32, F)],
     ) -> Result<(), AllocError>
-        ensures { Appends result self.old self.new (terms_text p.now.names p.now.labels F.limit (lp_numbers F.value lp.now) (entries_numbers F.value entries.now)) }
+        ensures { Appends result self.old self.new
+            (terms_text p.now.names p.now.labels F.limit (lp_numbers F.value lp.now) (entries_numbers F.value entries.now)) }
     {
         if entries.is_empty() {
             return self.push(" 0");
@@ -308,7 +309,9 @@ impl Listing {
         key: &Key,
         x: F,
     ) -> Result<(), AllocError>
-        ensures { Appends result self.old self.new (line_of (codes "  " ++ amount (F.value x) ++ codes " " ++ element_text p.now.names p.now.labels key.now.symbol key.now.tuple)) }
+        ensures { Appends result self.old self.new
+            (line_of (codes "  " ++ amount (F.value x) ++ codes " " ++
+            element_text p.now.names p.now.labels key.now.symbol key.now.tuple)) }
     {
         let mut digits = Digits::new();
         let number = amount(x, &mut digits);
@@ -347,7 +350,9 @@ impl Listing {
         place: usize,
         row: &Row<F>,
     ) -> Result<(), AllocError>
-        ensures { Appends result self.old self.new (column_entry_line p.now.names p.now.labels F.limit (lp_numbers F.value lp.now) j (place, row_numbers F.value row.now)) }
+        ensures { Appends result self.old self.new
+            (column_entry_line p.now.names p.now.labels F.limit (lp_numbers F.value lp.now) j
+            (place, row_numbers F.value row.now)) }
     {
         let entries = row.entries.as_slice();
         for (column, x) in entries {
@@ -383,7 +388,8 @@ impl Listing {
         j: usize,
         column: &Column<F>,
     ) -> Result<(), AllocError>
-        ensures { Appends result self.old self.new (column_lines p.now.names p.now.labels F.limit (lp_numbers F.value lp.now) (j, column_numbers F.value column.now)) }
+        ensures { Appends result self.old self.new
+            (column_lines p.now.names p.now.labels F.limit (lp_numbers F.value lp.now) (j, column_numbers F.value column.now)) }
     {
         let key = key_text(alloc, p, &column.key)?;
         let mut lower_digits = Digits::new();

@@ -26,7 +26,9 @@ impl Listing {
         answers: &[Answer<Frac>],
     ) -> Result<(), AllocError>
         requires { IsListable frac_value answers.now e.now }
-        ensures { Appends result self.old self.new (event_text p.now.names p.now.labels (2 ^ 127 - 1) (map (answer_numbers frac_value) answers.now) (event_in frac_value e.now)) }
+        ensures { Appends result self.old self.new
+            (event_text p.now.names p.now.labels (2 ^ 127 - 1) (map (answer_numbers frac_value) answers.now)
+            (event_in frac_value e.now)) }
     {
         match e {
             Event::Display { line, items } => self.push_items(alloc, p, *line, items.as_slice()),

@@ -104,7 +104,9 @@ impl Listing {
         item: &Shown<F>,
     ) -> Result<(), AllocError>
         requires { item.now.decimals ≤ 8 }
-        ensures { Appends result self.old self.new (codes "---- " ++ decimal line ++ codes " " ++ symbol_text p.now.names p.now.labels name (shown_in F.value item.now)) }
+        ensures { Appends result self.old self.new
+            (codes "---- " ++ decimal line ++ codes " " ++
+            symbol_text p.now.names p.now.labels name (shown_in F.value item.now)) }
     {
         let kind = kind_text(item.kind, item.indexed);
         let word = text_of(&p.names, name);
@@ -231,7 +233,8 @@ impl Listing {
         entries: &[(Tuple, Ext<F>)],
     ) -> Result<(), AllocError>
         requires { decimals ≤ 8 }
-        ensures { Appends result self.old self.new (flat_map (entry_text labels.now width decimals) (map (λ entry. (entry.0, extended F.value entry.1)) entries.now)) }
+        ensures { Appends result self.old self.new
+            (flat_map (entry_text labels.now width decimals) (map (λ entry. (entry.0, extended F.value entry.1)) entries.now)) }
     {
         for (t, value) in entries {
             self.push_entry(alloc, labels, width, decimals, t, *value)?;

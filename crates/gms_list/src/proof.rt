@@ -101,7 +101,8 @@ impl Listing {
         word: &str,
         numbers: &[F],
     ) -> Result<(), AllocError>
-        ensures { Appends result self.old self.new (column_lines p.now.names p.now.labels F.limit (lp_numbers F.value lp.now) word.now (map F.value numbers.now)) }
+        ensures { Appends result self.old self.new
+            (column_lines p.now.names p.now.labels F.limit (lp_numbers F.value lp.now) word.now (map F.value numbers.now)) }
     {
         let columns = lp.columns.as_slice();
         for (j, column) in columns.iter().enumerate() {
@@ -184,7 +185,8 @@ impl Listing {
         requires formed { IsWellFormed F.value lp.now }
         requires sized { crossed ≡ None → length duals.now ≡ length lp.now.rows }
         requires there { crossed ≡ None → objective_bound F.value false lp.now (map F.value duals.now) ≢ None }
-        ensures { Appends result self.old self.new (infeasible_text p.now.names p.now.labels F.limit (lp_numbers F.value lp.now) (map F.value duals.now) crossed) }
+        ensures { Appends result self.old self.new
+            (infeasible_text p.now.names p.now.labels F.limit (lp_numbers F.value lp.now) (map F.value duals.now) crossed) }
     {
         match crossed {
             Some(j) => match lp.columns.as_slice().get(j as usize) {
@@ -234,7 +236,8 @@ impl Listing {
     ) -> Result<(), AllocError>
         requires formed { IsWellFormed F.value lp.now }
         requires proved { HasProof F.value lp.now end.now }
-        ensures { Appends result self.old self.new (proof_text p.now.names p.now.labels F.limit (lp_numbers F.value lp.now) pivots (end_numbers F.value end.now)) }
+        ensures { Appends result self.old self.new
+            (proof_text p.now.names p.now.labels F.limit (lp_numbers F.value lp.now) pivots (end_numbers F.value end.now)) }
     {
         match end {
             End::Optimal {

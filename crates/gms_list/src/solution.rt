@@ -95,7 +95,9 @@ fn wider<F: ExactField>(
     symbol: u32,
     width: usize,
 ) -> Result<usize, AllocError>
-    ensures { IfOk result (λ next. next ≡ (if key.now.symbol == symbol then max (length (element_text p.now.names p.now.labels key.now.symbol key.now.tuple)) width else width)) }
+    ensures { IfOk result (λ next. next ≡
+        (if key.now.symbol == symbol then max
+        (length (element_text p.now.names p.now.labels key.now.symbol key.now.tuple)) width else width)) }
 {
     if key.symbol != symbol {
         return Ok(width);
@@ -111,7 +113,9 @@ fn rows_width<F: ExactField>(
     lp: &Lp<F>,
     equation: u32,
 ) -> Result<usize, AllocError>
-    ensures { IfOk result (λ width. width ≡ longest_element p.now.names p.now.labels F.limit (lp_numbers F.value lp.now) (map (λ q. q.1.key) (rows_of_equation p.now.names p.now.labels F.limit (lp_numbers F.value lp.now) equation))) }
+    ensures { IfOk result (λ width. width ≡
+        longest_element p.now.names p.now.labels F.limit (lp_numbers F.value lp.now)
+        (map (λ q. q.1.key) (rows_of_equation p.now.names p.now.labels F.limit (lp_numbers F.value lp.now) equation))) }
 {
     let mut width = 0;
     let rows = lp.rows.as_slice();
@@ -128,7 +132,9 @@ fn columns_width<F: ExactField>(
     lp: &Lp<F>,
     variable: u32,
 ) -> Result<usize, AllocError>
-    ensures { IfOk result (λ width. width ≡ longest_element p.now.names p.now.labels F.limit (lp_numbers F.value lp.now) (map (λ q. q.1.key) (columns_of_variable p.now.names p.now.labels F.limit (lp_numbers F.value lp.now) variable))) }
+    ensures { IfOk result (λ width. width ≡
+        longest_element p.now.names p.now.labels F.limit (lp_numbers F.value lp.now)
+        (map (λ q. q.1.key) (columns_of_variable p.now.names p.now.labels F.limit (lp_numbers F.value lp.now) variable))) }
 {
     let mut width = 0;
     let columns = lp.columns.as_slice();
@@ -299,7 +305,9 @@ impl Listing {
         equation: u32,
         solution: Solution<'_, F>,
     ) -> Result<(), AllocError>
-        ensures { Appends result self.old self.new (equation_points p.now.names p.now.labels F.limit (lp_numbers F.value lp.now) (solution_in F.value solution.entry) equation) }
+        ensures { Appends result self.old self.new
+            (equation_points p.now.names p.now.labels F.limit (lp_numbers F.value lp.now)
+            (solution_in F.value solution.entry) equation) }
     {
         if rows_of(lp.rows.as_slice(), equation) == 0 {
             return Ok(());
@@ -338,7 +346,9 @@ impl Listing {
         variable: u32,
         solution: Solution<'_, F>,
     ) -> Result<(), AllocError>
-        ensures { Appends result self.old self.new (variable_points p.now.names p.now.labels F.limit (lp_numbers F.value lp.now) (solution_in F.value solution.entry) variable) }
+        ensures { Appends result self.old self.new
+            (variable_points p.now.names p.now.labels F.limit (lp_numbers F.value lp.now)
+            (solution_in F.value solution.entry) variable) }
     {
         let width = columns_width(alloc, p, lp, variable)?;
         self.push_head(alloc, p, "VAR ", variable, " LOWER LEVEL UPPER MARGINAL\n")?;
@@ -354,7 +364,9 @@ impl Listing {
         equations: &[u32],
         solution: Solution<'_, F>,
     ) -> Result<(), AllocError>
-        ensures { Appends result self.old self.new (flat_map (equation_points p.now.names p.now.labels F.limit (lp_numbers F.value lp.now) (solution_in F.value solution.entry)) equations.now) }
+        ensures { Appends result self.old self.new
+            (flat_map (equation_points p.now.names p.now.labels F.limit (lp_numbers F.value lp.now)
+            (solution_in F.value solution.entry)) equations.now) }
     {
         for equation in equations {
             self.push_equation_points(alloc, p, lp, *equation, solution)?;
@@ -370,7 +382,9 @@ impl Listing {
         lp: &Lp<F>,
         solution: Solution<'_, F>,
     ) -> Result<(), AllocError>
-        ensures { Appends result self.old self.new (flat_map (variable_points p.now.names p.now.labels F.limit (lp_numbers F.value lp.now) (solution_in F.value solution.entry)) (variables p.now.names p.now.labels F.limit (lp_numbers F.value lp.now))) }
+        ensures { Appends result self.old self.new
+            (flat_map (variable_points p.now.names p.now.labels F.limit (lp_numbers F.value lp.now)
+            (solution_in F.value solution.entry)) (variables p.now.names p.now.labels F.limit (lp_numbers F.value lp.now))) }
     {
         let variables = variables_of(alloc, lp.columns.as_slice())?;
         let each = variables.as_slice();
@@ -389,7 +403,9 @@ impl Listing {
         equations: &[u32],
         solution: Solution<'_, F>,
     ) -> Result<(), AllocError>
-        ensures { Appends result self.old self.new (solution_text p.now.names p.now.labels F.limit (lp_numbers F.value lp.now) equations.now (Some (solution_in F.value solution.entry))) }
+        ensures { Appends result self.old self.new
+            (solution_text p.now.names p.now.labels F.limit (lp_numbers F.value lp.now) equations.now
+            (Some (solution_in F.value solution.entry))) }
     {
         self.push_all_rows(alloc, p, lp, equations, solution)?;
         self.push_all_columns(alloc, p, lp, solution)

@@ -130,7 +130,8 @@ fn status_lines<F: ExactField>(
     s: &Solved<'_, F>,
     answer: &Answer<F>,
 ) -> Result<String, AllocError>
-    ensures { IfOk result (λ text. string_bytes text ≡ status_lines s.now.settings.iterlim (F.value s.now.objective_level) (answer_numbers F.value answer.now)) }
+    ensures { IfOk result (λ text. string_bytes text ≡
+        status_lines s.now.settings.iterlim (F.value s.now.objective_level) (answer_numbers F.value answer.now)) }
 {
     let pivots = answer.pivots.len();
     let limit = s.settings.iterlim;

@@ -72,7 +72,8 @@ impl<'s> Reader<'s> {
         at: usize,
     ) -> Read<Act<F>>
         requires { IsReady self.now }
-        ensures { AnswersPart F.limit (IsAssigned F.value self.now.source.now target condition) (token Equals · the Expression) self.now at tables.old tables.new result }
+        ensures { AnswersPart F.limit (IsAssigned F.value self.now.source.now target condition)
+            (token Equals · the Expression) self.now at tables.old tables.new result }
     {
         let right = self.right_value(tables, at);
         right.map(|((right_at, value), next)| {

@@ -68,7 +68,9 @@ fn signed<F: ExactField>(minus: bool, value: Ext<F>) -> Ext<F>
 
 /// The item of data that an element is, with a value or without.
 fn item_of<F: ExactField>(element: Element, value: Option<Ext<F>>) -> Item<F>
-    ensures { item_in F.value result ≡ record { at = element.at; parts = element.parts.items; value = option_map (extended_in F.value) value; bad_range = element.bad_range } }
+    ensures { item_in F.value result ≡
+        record { at = element.at; parts = element.parts.items; value = option_map
+        (extended_in F.value) value; bad_range = element.bad_range } }
 {
     Item {
         at: element.at,
@@ -131,7 +133,8 @@ impl<'s> Reader<'s> {
         requires { IsReady self.now }
         ensures { (limit : ℕ) (read_state : ReaderState) → Has self.now tables.old read_state → Starless read_state → Tableless read_state →
             MatchResult result
-            (λ next. IsGot limit (λ sense tree x. IsAdded self.now.source.now sense tree part.old x) (Stays self.now tables.new read_state) (the RangePart) self.now at tables.new read_state part.new next)
+            (λ next. IsGot limit (λ sense tree x. IsAdded self.now.source.now sense tree part.old x)
+            (Stays self.now tables.new read_state) (the RangePart) self.now at tables.new read_state part.new next)
             (λ e. Refuses limit self.now.source.now (the RangePart) read_state (seen_from self.now at) e) }
     {
         let (first, next) = self.take(Terminal::Label, at)?;
@@ -219,7 +222,8 @@ impl<'s> Reader<'s> {
     /// Reads the value of an entry, perhaps after `=`.
     fn entry_value<F: ExactField>(&self, at: usize) -> Read<Ext<F>>
         requires { IsReady self.now }
-        ensures { AnswersPlain F.limit (λ sense tree v. IsGiven F.value self.now.source.now sense (second_in tree) v) (opt (token Equals) · the Value) self.now at result }
+        ensures { AnswersPlain F.limit (λ sense tree v. IsGiven F.value self.now.source.now sense (second_in tree) v)
+            (opt (token Equals) · the Value) self.now at result }
     {
         match self.take_if(Terminal::Equals, at) {
             Some((_, following)) => self.value(following),
@@ -270,7 +274,8 @@ impl<'s> Reader<'s> {
         at: usize,
     ) -> Read<Vec<Item<F>>>
         requires { IsReady self.now }
-        ensures { AnswersList F.limit (AreListed F.value self.now.source.now list) (opt (token Slash · the (list_part list) · token Slash)) self.now at tables.old tables.new result }
+        ensures { AnswersList F.limit (AreListed F.value self.now.source.now list)
+            (opt (token Slash · the (list_part list) · token Slash)) self.now at tables.old tables.new result }
     {
         let mut items = Vec::new(self.alloc);
         let Some((_, start)) = self.take_if(Terminal::Slash, at) else {

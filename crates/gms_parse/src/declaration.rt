@@ -107,7 +107,8 @@ impl<'s> Reader<'s> {
         at: usize,
     ) -> Read<Decl<F>>
         requires { IsReady self.now }
-        ensures { AnswersPart F.limit (IsDeclared F.value self.now.source.now (form_of list)) (the (item_part (form_of list))) self.now at tables.old tables.new result }
+        ensures { AnswersPart F.limit (IsDeclared F.value self.now.source.now (form_of list))
+            (the (item_part (form_of list))) self.now at tables.old tables.new result }
     {
         let (named, next) = self.name(tables, at)?;
         let (domain, next) = self.optional_domain(tables, next)?;
@@ -194,7 +195,8 @@ impl<'s> Reader<'s> {
         at: usize,
     ) -> Read<Act<F>>
         requires { IsReady self.now }
-        ensures { AnswersDeclaration keyword F.limit (IsDeclaration F.value self.now.source.now kind form) (token keyword · the (items_part form)) self.now at tables.old tables.new result }
+        ensures { AnswersDeclaration keyword F.limit (IsDeclaration F.value self.now.source.now kind form)
+            (token keyword · the (items_part form)) self.now at tables.old tables.new result }
     {
         let start = self.following(keyword, at)?;
         let (items, next) = self.items(tables, form, start)?;

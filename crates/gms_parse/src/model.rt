@@ -33,7 +33,8 @@ impl<'s> Reader<'s> {
     /// model without a list has none.
     fn model_list(&self, tables: &mut Tables, at: usize) -> Read<(bool, Vec<Named>)>
         requires { IsReady self.now }
-        ensures { (limit : ℕ) → AnswersNamed limit (IsModelList self.now.source.now) (opt (token Slash · the ModelList · token Slash)) self.now at tables.old tables.new result }
+        ensures { (limit : ℕ) → AnswersNamed limit (IsModelList self.now.source.now)
+            (opt (token Slash · the ModelList · token Slash)) self.now at tables.old tables.new result }
     {
         let none = Vec::new(self.alloc);
         let Some((_, following)) = self.take_if(Terminal::Slash, at) else {

@@ -172,7 +172,8 @@ impl<'s> Reader<'s> {
         requires { IsReady self.now }
         ensures { (read_state : ReaderState) → Starts self.now tables.old read_state → Tableless read_state →
             MatchResult result
-            (λ next. IsGot F.limit (IsNamedFirst F.value self.now.source.now statements.old) (Holds self.now tables.new) (opt (the NamedStatement)) self.now at tables.new read_state statements.new next)
+            (λ next. IsGot F.limit (IsNamedFirst F.value self.now.source.now statements.old) (Holds self.now tables.new)
+            (opt (the NamedStatement)) self.now at tables.new read_state statements.new next)
             (λ e. Refuses F.limit self.now.source.now (opt (the NamedStatement)) read_state (seen_from self.now at) e) }
     {
         if !self.is_any_next(&NAMES, at) {
@@ -197,7 +198,8 @@ impl<'s> Reader<'s> {
         requires { IsReady self.now }
         ensures { (read_state : ReaderState) → Starts self.now tables.old read_state → Tableless read_state →
             MatchResult result
-            (λ next. IsGot F.limit (IsSegment F.value self.now.source.now statements.old) (Holds self.now tables.new) (the Segment) self.now at tables.new read_state statements.new next)
+            (λ next. IsGot F.limit (IsSegment F.value self.now.source.now statements.old) (Holds self.now tables.new)
+            (the Segment) self.now at tables.new read_state statements.new next)
             (λ e. Refuses F.limit self.now.source.now (the Segment) read_state (seen_from self.now at) e) }
     {
         let mut next = self.named_statement(tables, statements, at)?;

@@ -85,14 +85,17 @@ pub fn restart_laws()
 /// GAMS User's Guide, "Save and Restart"; "Set Definition", domain checking.
 pub fn valid_laws<F: ExactField>()
     ensures occur { (world : World F) (answers : List (Answer Number)) (name : ℕ) → IsAccepted F.value world.program → WritesItsLabels F.value world.program →
-        All (λ (t : List ℕ). fits_domain (length world.program.labels) (last_state F.value F.limit world answers) (symbol_at (last_state F.value F.limit world answers) name).domain t ≡ true)
+        All (λ (t : List ℕ). fits_domain (length world.program.labels) (last_state F.value F.limit world answers)
+        (symbol_at (last_state F.value F.limit world answers) name).domain t ≡ true)
         (given_in (symbol_at (last_state F.value F.limit world answers) name).content) }
-    ensures saved { (world : World F) (answers : List (Answer Number)) (most : ℕ) (solver : List ℕ) → IsAccepted F.value world.program → WritesItsLabels F.value world.program →
+    ensures saved { (world : World F) (answers : List (Answer Number)) (most : ℕ) (solver : List ℕ) →
+        IsAccepted F.value world.program → WritesItsLabels F.value world.program →
         NumbersFit most (last_state F.value F.limit world answers) → is_solver_name solver ≡ true →
         IsSavedOf most (length world.program.labels) (declared_state world.program) (loaded F.value world.program) (is_among (dynamic_sets world.program))
         (last_state F.value F.limit world answers) solver }
     ensures own { (limit : ℕ) (source : List ℕ) (program : Program Frac) → IsProgram limit source frac_value program → WritesItsLabels frac_value program }
-    ensures last { (limit : ℕ) (source : List ℕ) (world : World Frac) (answers : List (Answer Number)) (solver : List ℕ) → IsProgram frac_limit source frac_value world.program →
+    ensures last { (limit : ℕ) (source : List ℕ) (world : World Frac) (answers : List (Answer Number)) (solver : List ℕ) →
+        IsProgram frac_limit source frac_value world.program →
         compile_errors frac_value world.program world.solvers ≡ [] →
         NumbersFit frac_limit (last_state frac_value limit world answers) → is_solver_name solver ≡ true →
         IsSavedBy world.program (last_state frac_value limit world answers) solver }
@@ -100,7 +103,8 @@ pub fn valid_laws<F: ExactField>()
         IsProgram frac_limit source frac_value saved → IsProgram frac_limit (joint_source source file) frac_value world.program →
         joint_errors frac_value world.program (first_line source) world.solvers ≡ [] → IsSavedBy saved state solver →
         MayBegin frac_value world.program (resumed frac_value state world.program) }
-    ensures later { (limit : ℕ) (source file : List ℕ) (saved : Program Frac) (world : World Frac) (state : State) (solver named : List ℕ) (answers : List (Answer Number)) →
+    ensures later { (limit : ℕ) (source file : List ℕ) (saved : Program Frac) (world : World Frac) (state : State)
+        (solver named : List ℕ) (answers : List (Answer Number)) →
         IsProgram frac_limit source frac_value saved → IsProgram frac_limit (joint_source source file) frac_value world.program →
         joint_errors frac_value world.program (first_line source) world.solvers ≡ [] → IsSavedBy saved state solver →
         NumbersFit frac_limit (later_state frac_value limit (first_line source) world state answers) → is_solver_name named ≡ true →
@@ -115,7 +119,8 @@ pub fn valid_laws<F: ExactField>()
 /// GAMS User's Guide, "Data Manipulations with Parameters", indexed assignments; "Save and
 /// Restart".
 pub fn assigned_laws<F: ExactField>()
-    ensures { (world : World F) (statement : Stmt F) (target : Target F) (condition : Option (Expr F)) (right_at : Place) (right : Expr F) (first state : State) (binding : Pairs) (given : AllGiven) →
+    ensures { (world : World F) (statement : Stmt F) (target : Target F) (condition : Option (Expr F)) (right_at : Place)
+        (right : Expr F) (first state : State) (binding : Pairs) (given : AllGiven) →
         IsAccepted F.value world.program → IsStatementOf world.program statement → statement.act ≡ Assign target condition right_at (Value right) →
         MayBegin F.value world.program first → IsReached F.value F.limit world first state →
         given_by F.value F.limit state statement.at binding (target_of target) (option_map tree_of condition) right_at (tree_of right) ≡ Ok given →

@@ -35,7 +35,8 @@ fn push_equation<'s, F: ExactField>(
     rows: &mut Vec<FormRow<F>>,
 ) -> Result<(), ExecStopOrMemory<F>>
     ensures rows { (ds : List (Definition F)) → AreNoted noted.now ds → Gives F.value (λ _. map (form_row_in F.value) rows.new.items) result
-        (in_order (map (rows_of_definition F.value F.limit store.now) (definition_of ds equation)) and_then λ those. Ok (map (form_row_in F.value) rows.old.items ++ flat_map (λ some. some) those)) }
+        (in_order (map (rows_of_definition F.value F.limit store.now) (definition_of ds equation)) and_then
+        λ those. Ok (map (form_row_in F.value) rows.old.items ++ flat_map (λ some. some) those)) }
     ensures ordered { (ds : List (Definition F)) → AreNoted noted.now ds → OnOk result (HaveOrder store.now (definition_of ds equation)) }
 {
     match noted_definition(noted, equation) {

@@ -76,7 +76,8 @@ pub fn point_laws<F: ExactField>()
     ensures value { (state : State) (point : Key → Number) (at : Place) (b : Pairs) (e : Tree F) (form : Form) → is_linear state e ≡ true →
         affine F.value F.limit state at b e ≡ Ok form →
         value_at F.value F.limit state point b e ≡ Ok (number (form_at point form)) }
-    ensures feasible { (state : State) (statements : List (Stmt F)) (model objective : ℕ) (maximize : Bool) (at : Place) (lp : Lp Number) (point : Key → Number) →
+    ensures feasible { (state : State) (statements : List (Stmt F)) (model objective : ℕ) (maximize : Bool) (at : Place)
+        (lp : Lp Number) (point : Key → Number) →
         All (IsLinearDefinition state) (definitions_of_model statements model) →
         program_lp F.value F.limit state statements model objective maximize at ≡ Ok lp →
         (KeepsModel F.value F.limit state point statements model × KeepsBoundsOf state point (column_elements lp))

@@ -116,7 +116,8 @@ fn variable<F: ExactField>(
     b: &Binding,
 ) -> Result<Form<F>, ExecStopOrMemory<F>>
     ensures { Gives F.value (form_in F.value) result
-        (in_order (labels F.value F.limit store.now b.now (indices_of (map index_tree indices.now))) and_then λ those. Ok (element_form name (tuple_of those))) }
+        (in_order (labels F.value F.limit store.now b.now (indices_of (map index_tree indices.now))) and_then
+        λ those. Ok (element_form name (tuple_of those))) }
 {
     match tuple_of(alloc, store, indices, b)? {
         Some(tuple) => Ok(Form::column(

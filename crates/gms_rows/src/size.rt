@@ -19,7 +19,8 @@ use std::alloc::Global;
 /// How many rows the standard form has, at most the greatest `usize`: those of the rows, and one
 /// for each column with two bounds.
 fn standard_rows<F: ExactField>(rows: &[FormRow<F>], columns: &[Column<F>]) -> usize
-    ensures { result ≡ min (sum_by (λ row. rows_of_sense row.sense) rows.now + sum_by (λ column. rows_of_bounds column.lower column.upper) columns.now) most_counted }
+    ensures { result ≡ min (sum_by (λ row. rows_of_sense row.sense) rows.now + sum_by
+        (λ column. rows_of_bounds column.lower column.upper) columns.now) most_counted }
 {
     let mut count: usize = 0;
     for row in rows {
@@ -54,7 +55,8 @@ pub(crate) fn check_size<F: ExactField>(
         standard_rows lp ≡ sum_by (λ row. rows_of_sense row.sense) rows.now + sum_by (λ column. rows_of_bounds column.lower column.upper) columns.now →
         standard_columns lp ≡ sum_by (λ column. variables_of_bounds column.lower column.upper) columns.now →
         Gives F.value (λ _. lp) result (sized_program at lp) }
-    ensures rows { OnOk result (sum_by (λ row. rows_of_sense row.sense) rows.now + sum_by (λ column. rows_of_bounds column.lower column.upper) columns.now ≤ 1500) }
+    ensures rows { OnOk result (sum_by (λ row. rows_of_sense row.sense) rows.now + sum_by
+        (λ column. rows_of_bounds column.lower column.upper) columns.now ≤ 1500) }
     ensures columns { OnOk result (sum_by (λ column. variables_of_bounds column.lower column.upper) columns.now ≤ 3000) }
 {
     let count = standard_rows(rows, columns);

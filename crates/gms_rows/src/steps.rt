@@ -131,7 +131,8 @@ pub(crate) fn add_to<F: ExactField>(
     at: Place,
     b: &Binding,
 ) -> Result<(), ExecStopOrMemory<F>>
-    ensures { Gives F.value (form_in F.value) (result_map_both (λ _. sum.new) (λ stop. stop) result) (sum_of_forms F.limit at b.now false (form_in F.value sum.old) (form_in F.value form.now)) }
+    ensures { Gives F.value (form_in F.value) (result_map_both (λ _. sum.new) (λ stop. stop) result)
+        (sum_of_forms F.limit at b.now false (form_in F.value sum.old) (form_in F.value form.now)) }
 {
     let _ = sum.offset();
     let _ = form.keys();

@@ -203,7 +203,9 @@ pub(crate) fn write_save<H: Host>(
     request: Request,
     bytes: &[u8],
 ) -> Result<(), Failed>
-    ensures outside { ResultsIn result (λ done. WritesSave status (asked_by request.entry) (H.meaning host.old).outside (H.meaning host.new).outside bytes.now) (LosesSave status (asked_by request.entry) (H.meaning host.old).outside (H.meaning host.new).outside bytes.now) }
+    ensures outside { ResultsIn result (λ done. WritesSave status (asked_by request.entry) (H.meaning host.old).outside
+        (H.meaning host.new).outside bytes.now)
+        (LosesSave status (asked_by request.entry) (H.meaning host.old).outside (H.meaning host.new).outside bytes.now) }
     ensures counts { CountsWriting result (H.meaning host.old).counts (H.meaning host.new).counts }
 {
     match save_file(status, request) {

@@ -77,7 +77,8 @@ fn list_events(
     listing: &mut Listing,
 ) -> Result<(), AllocError>
     requires { All (IsListable frac_value answers.now) events.now }
-    ensures { OnOk result (listing.new ≡ listing.old ++ events_text program.now.names program.now.labels frac_limit (numbers_of answers.now) (events_in frac_value events.now)) }
+    ensures { OnOk result (listing.new ≡ listing.old ++
+        events_text program.now.names program.now.labels frac_limit (numbers_of answers.now) (events_in frac_value events.now)) }
 {
     for event in events {
         listing.event(alloc, program, event, answers)?;
@@ -117,7 +118,9 @@ fn show(
     listing: &mut Listing,
 ) -> Result<(), AllocError>
     requires { All (IsListable frac_value answers.now) events.items }
-    ensures listed { OnOk result (listing.new ≡ listing.old ++ events_text program.now.names program.now.labels frac_limit (numbers_of answers.now) (events_in frac_value events.items)) }
+    ensures listed { OnOk result (listing.new ≡ listing.old ++
+        events_text program.now.names program.now.labels frac_limit (numbers_of answers.now)
+        (events_in frac_value events.items)) }
     ensures kept { OnOk result (solved.new.items ≡ solved.old.items ++ programs_in events.items) }
 {
     list_events(alloc, program, &events, answers, listing)?;
@@ -143,7 +146,8 @@ fn step_alone(
     ensures solvers { UnlessMemory result (Answered frac_value frac_limit name rule paths solvers.old.items solvers.new.items
         (record { state = store.old; events = events.old.items; answers = answers.old.items })
         (record { state = store.new; events = events.new.items; answers = answers.new.items })) }
-    ensures valid { UnlessMemory result (ShowsValidEvents frac_value frac_limit (map rule solvers.old.items) answers.new.items events.old.items events.new.items) }
+    ensures valid { UnlessMemory result (ShowsValidEvents frac_value frac_limit
+        (map rule solvers.old.items) answers.new.items events.old.items events.new.items) }
     ensures settings { UnlessMemory result (AreValidSettings (length solvers.old.items) store.new.settings) }
     ensures plain { UnlessMemory result (AreOneDimensional store.new program.now.statements.items) }
 {
@@ -159,7 +163,8 @@ fn list_fault(
     answers: &[Answer<Frac>],
     listing: &mut Listing,
 ) -> Result<(), AllocError>
-    ensures { OnOk result (listing.new ≡ listing.old ++ event_text program.now.names program.now.labels frac_limit (numbers_of answers.now) (stops (fault_of frac_value stop))) }
+    ensures { OnOk result (listing.new ≡ listing.old ++
+        event_text program.now.names program.now.labels frac_limit (numbers_of answers.now) (stops (fault_of frac_value stop))) }
 {
     listing.event(alloc, program, &Event::Fault(stop), answers)
 }
@@ -173,7 +178,10 @@ fn pass_echo<H: Host>(
 ) -> Result<(), Failed>
     requires open { (H.meaning host.old).outside.writing ≡ true }
     requires empty { outlet.old.spool ++ outlet.old.listing ≡ [] }
-    ensures outside { ResultsIn result (λ _. Passes (H.meaning host.old).outside (H.meaning host.new).outside (echo_text script.entry.line script.entry.file.now) outlet.new.spool) (WritesPrefix (H.meaning host.old).outside (H.meaning host.new).outside (echo_text script.entry.line script.entry.file.now)) }
+    ensures outside { ResultsIn result (λ _. Passes (H.meaning host.old).outside (H.meaning host.new).outside
+        (echo_text script.entry.line script.entry.file.now) outlet.new.spool)
+        (WritesPrefix (H.meaning host.old).outside (H.meaning host.new).outside
+        (echo_text script.entry.line script.entry.file.now)) }
     ensures none { OnOk result (outlet.new.listing ≡ []) }
     ensures within_bound { OnOk result (length outlet.new.spool ≤ 4096) }
     ensures counts { CountsWriting result (H.meaning host.old).counts (H.meaning host.new).counts }
@@ -210,7 +218,8 @@ impl Run {
     ) -> Result<bool, AllocError>
         requires few { length solvers.old.items < 2 ^ 32 }
         requires can_execute { CanExecute program.now (length solvers.old.items) self.old.store }
-        ensures listed { IfOk result (λ continues. ListsStatement continues program.now s.now (solver_views name rule paths solvers.old.items) self.old (solver_views name rule paths solvers.new.items) self.new) }
+        ensures listed { IfOk result (λ continues. ListsStatement continues program.now s.now
+            (solver_views name rule paths solvers.old.items) self.old (solver_views name rule paths solvers.new.items) self.new) }
         ensures spool { OnOk result (self.new.outlet.spool ≡ self.old.outlet.spool) }
         ensures can_execute { OnOk result (CanExecute program.now (length solvers.old.items) self.new.store) }
     {
@@ -280,11 +289,14 @@ impl Run {
         requires can_execute { CanExecute program.now (length solvers.old.items) self.old.store }
         requires unsolved { IsUnsolved self.old }
         requires within_bound { length (pending self.old) ≤ 4096 }
-        ensures outside { (state : State) → ExecutesProgram result (work program.now self.old.store (statements_to_run (script_in script.entry state).saved script.entry.line program.now))
+        ensures outside { (state : State) → ExecutesProgram result
+            (work program.now self.old.store
+            (statements_to_run (script_in script.entry state).saved script.entry.line program.now))
             (moment name rule paths (H.meaning host.old) solvers.old.items self.old)
             (moment name rule paths (H.meaning host.new) solvers.new.items self.new) }
         ensures remarks { IfOk result (λ status. HasRemarks (asked_by request.entry) program.now self.new) }
-        ensures saved { IfOk result (λ status. HasSave status (asked_by request.entry) (map name solvers.new.items) script.entry.source.now program.now self.new) }
+        ensures saved { IfOk result (λ status. HasSave status (asked_by request.entry)
+            (map name solvers.new.items) script.entry.source.now program.now self.new) }
         ensures counts { CountsWriting result (H.meaning host.old).counts (H.meaning host.new).counts }
     {
         let list = statements_of(script, program);
@@ -313,10 +325,13 @@ impl Run {
         requires few { length solvers.old.items < 2 ^ 32 }
         requires can_execute { CanExecute program.now (length solvers.old.items) self.old.store }
         requires fresh { IsFresh self.old }
-        ensures outside { (state : State) → Begins (map name solvers.old.items) (script_in script.entry state) program.now self.old.store → ListsBody result (scripted (script_in script.entry state))
+        ensures outside { (state : State) → Begins (map name solvers.old.items)
+            (script_in script.entry state) program.now self.old.store → ListsBody result (scripted (script_in script.entry state))
             (moment name rule paths (H.meaning host.old) solvers.old.items self.old)
             (moment name rule paths (H.meaning host.new) solvers.new.items self.new) }
-        ensures follows { (state : State) → Begins (map name solvers.old.items) (script_in script.entry state) program.now self.old.store → HasRest result (asked_by request.entry) (scripted (script_in script.entry state))
+        ensures follows { (state : State) → Begins (map name solvers.old.items)
+            (script_in script.entry state) program.now self.old.store →
+            HasRest result (asked_by request.entry) (scripted (script_in script.entry state))
             (moment name rule paths (H.meaning host.old) solvers.old.items self.old)
             (moment name rule paths (H.meaning host.new) solvers.new.items self.new) }
         ensures counts { CountsWriting result (H.meaning host.old).counts (H.meaning host.new).counts }

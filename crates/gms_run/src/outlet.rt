@@ -62,7 +62,8 @@ impl Outlet {
         solves: usize,
     ) -> Result<(), Failed>
         requires { (H.meaning host.old).outside.writing ≡ true }
-        ensures outside { ResultsIn result (λ done. (H.meaning host.new).outside ≡ with_output (H.meaning host.old).outside (self.old.spool ++ self.old.listing ++ end_text (status_code status) solves))
+        ensures outside { ResultsIn result (λ done. (H.meaning host.new).outside ≡
+            with_output (H.meaning host.old).outside (self.old.spool ++ self.old.listing ++ end_text (status_code status) solves))
             (WritesPrefix (H.meaning host.old).outside (H.meaning host.new).outside (self.old.spool ++ self.old.listing ++ end_text (status_code status) solves)) }
         ensures counts { CountsWriting result (H.meaning host.old).counts (H.meaning host.new).counts }
     {

@@ -113,7 +113,8 @@ fn errors_for(
     program: &Program<Frac>,
     solvers: &[Box<dyn LpSolver>],
 ) -> Result<Vec<CompileError>, AllocError>
-    ensures errors { IfOk result (λ errors. (state : State) → errors.items ≡ errors_of_script (script_in script.entry state).saved script.entry.line program.now (map name solvers.now)) }
+    ensures errors { IfOk result (λ errors. (state : State) → errors.items ≡
+        errors_of_script (script_in script.entry state).saved script.entry.line program.now (map name solvers.now)) }
     ensures named { IfOk result (λ errors. All IsSolverName (map name solvers.now)) }
 {
     let names = names_of(alloc, solvers)?;
@@ -130,7 +131,9 @@ fn has_errors(
     solvers: &[Box<dyn LpSolver>],
     listing: &mut Listing,
 ) -> Result<bool, AllocError>
-    ensures listed { IfOk result (λ some. (state : State) → ListsErrors some (errors_of_script (script_in script.entry state).saved script.entry.line program.now (map name solvers.now)) (script_in script.entry state) listing.old listing.new) }
+    ensures listed { IfOk result (λ some. (state : State) →
+        ListsErrors some (errors_of_script (script_in script.entry state).saved script.entry.line program.now
+        (map name solvers.now)) (script_in script.entry state) listing.old listing.new) }
     ensures named { IfOk result (λ some. All IsSolverName (map name solvers.now)) }
 {
     let errors = errors_for(alloc, script, program, solvers)?;

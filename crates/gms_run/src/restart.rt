@@ -39,7 +39,8 @@ pub(crate) fn errors_of(
     program: &Program<Frac>,
     solvers: &[String],
 ) -> Result<Vec<CompileError>, AllocError>
-    ensures { IfOk result (λ errors. (state : State) → errors.items ≡ errors_of_script (script_in script.entry state).saved script.entry.line program.now (map string_bytes solvers.now)) }
+    ensures { IfOk result (λ errors. (state : State) → errors.items ≡
+        errors_of_script (script_in script.entry state).saved script.entry.line program.now (map string_bytes solvers.now)) }
 {
     if script.joint {
         return joint_errors(alloc, program, script.line, solvers);

@@ -164,7 +164,8 @@ fn run_joint<H: Host>(
     requires few { length solvers.old.items < 2 ^ 32 }
     requires fresh { IsFresh run.old }
     requires short { length saved.old.source.items ≤ most_source_bytes }
-    requires sound { CanContinue (map name solvers.old.items) (joint_source saved.old.source.items file.now) (first_line saved.old.source.items) saved.old.store }
+    requires sound { CanContinue (map name solvers.old.items) (joint_source saved.old.source.items file.now)
+        (first_line saved.old.source.items) saved.old.store }
     ensures ran { RunsInput result (asked_by request.entry) (scripted (joint_script saved.old.source.items saved.old.store file.now))
         (moment name rule paths (H.meaning host.old) solvers.old.items run.old)
         (moment name rule paths (H.meaning host.new) solvers.new.items run.new) }
@@ -225,7 +226,8 @@ fn run_file<H: Host>(
     ensures ran { RunsRequest result (asked_by request.entry)
         (moment name rule paths (H.meaning host.old) solvers.old.items run.old)
         (moment name rule paths (H.meaning host.new) solvers.new.items run.new) }
-    ensures counts { CountsRun result (((H.meaning host.old).counts.reliable ≡ true) × IsThere (H.meaning host.old).outside file.now) (H.meaning host.old).counts (H.meaning host.new).counts }
+    ensures counts { CountsRun result (((H.meaning host.old).counts.reliable ≡ true) ×
+        IsThere (H.meaning host.old).outside file.now) (H.meaning host.old).counts (H.meaning host.new).counts }
 {
     let source = match read_file(alloc, host, file, MOST_BYTES) {
         Ok(source) => source,
@@ -250,7 +252,8 @@ fn run_after_save<H: Host>(
     ensures ran { RunsAfter result (asked_by request.entry) save.items file.now
         (moment name rule paths (H.meaning host.old) solvers.old.items run.old)
         (moment name rule paths (H.meaning host.new) solvers.new.items run.new) }
-    ensures counts { CountsRun result (((H.meaning host.old).counts.reliable ≡ true) × IsThere (H.meaning host.old).outside file.now) (H.meaning host.old).counts (H.meaning host.new).counts }
+    ensures counts { CountsRun result (((H.meaning host.old).counts.reliable ≡ true) ×
+        IsThere (H.meaning host.old).outside file.now) (H.meaning host.old).counts (H.meaning host.new).counts }
 {
     let source = match read_file(alloc, host, file, MOST_BYTES) {
         Ok(source) => source,
@@ -276,7 +279,9 @@ fn run_restart<H: Host>(
     ensures ran { RunsRequest result (asked_by request.entry)
         (moment name rule paths (H.meaning host.old) solvers.old.items run.old)
         (moment name rule paths (H.meaning host.new) solvers.new.items run.new) }
-    ensures counts { CountsRun result (((H.meaning host.old).counts.reliable ≡ true) × (IsThere (H.meaning host.old).outside saved.now × IsThere (H.meaning host.old).outside file.now)) (H.meaning host.old).counts (H.meaning host.new).counts }
+    ensures counts { CountsRun result (((H.meaning host.old).counts.reliable ≡ true) ×
+        (IsThere (H.meaning host.old).outside saved.now × IsThere (H.meaning host.old).outside file.now))
+        (H.meaning host.old).counts (H.meaning host.new).counts }
 {
     let save = match read_file(alloc, host, saved, MOST_SAVE_BYTES) {
         Ok(save) => save,
@@ -321,7 +326,9 @@ fn run_request<H: Host>(
     ensures ran { RunsRequest result (asked_by request.entry)
         (moment name rule paths (H.meaning host.old) solvers.old.items run.old)
         (moment name rule paths (H.meaning host.new) solvers.new.items run.new) }
-    ensures counts { CountsRun result (((H.meaning host.old).counts.reliable ≡ true) × HasOrigin (H.meaning host.old).outside (asked_by request.entry).source) (H.meaning host.old).counts (H.meaning host.new).counts }
+    ensures counts { CountsRun result (((H.meaning host.old).counts.reliable ≡ true) ×
+        HasOrigin (H.meaning host.old).outside (asked_by request.entry).source) (H.meaning host.old).counts
+        (H.meaning host.new).counts }
 {
     match request.source {
         Source::File(file) => run_file(alloc, host, request, file, solvers, run),
@@ -416,7 +423,9 @@ pub fn run<H: Host>(
         WritesListing ended.status (solving name rule paths solvers.old.items solvers.new.items ended.answers.items) (H.meaning host.old).outside (H.meaning host.new).outside file output) }
 
     // The same for all arguments, saves and restarts, and what the other statuses mean.
-    ensures run { IfOk result (λ ended. IsRun ended.status (solving name rule paths solvers.old.items solvers.new.items ended.answers.items) (texts words.now) (H.meaning host.old) (H.meaning host.new)) }
+    ensures run { IfOk result (λ ended. IsRun ended.status
+        (solving name rule paths solvers.old.items solvers.new.items ended.answers.items) (texts words.now) (H.meaning host.old)
+        (H.meaning host.new)) }
 
     // What each answer says of plans is so, in the run of whatever was executed, from its start or
     // from a save.
@@ -433,9 +442,16 @@ pub fn run<H: Host>(
     // an execution error exactly where its run with these answers is stopped by one, and a program
     // is run.
     ensures usage { IfOk result (λ ended. (ended.status ≡ Status.Usage) ↔ (request_of (texts words.now) ≡ None)) }
-    ensures compile { (source : NamesSource (H.meaning host.old).outside (texts words.now)) → MeetsNoFault (H.meaning host.old).counts (H.meaning host.new).counts → IfOk result (λ ended. (ended.status ≡ Status.Compile) ↔ ¬ (CanRun (map name solvers.old.items) source.taken)) }
-    ensures execution { (source : NamesSource (H.meaning host.old).outside (texts words.now)) → MeetsNoFault (H.meaning host.old).counts (H.meaning host.new).counts → IfOk result (λ ended. (ended.status ≡ Status.Execution) ↔ IsStopped (solving name rule paths solvers.old.items solvers.new.items ended.answers.items) source.taken) }
-    ensures complete { NamesProgram (map name solvers.old.items) (H.meaning host.old).outside (texts words.now) → MeetsNoFault (H.meaning host.old).counts (H.meaning host.new).counts → IfOk result (λ ended. (ended.status ≡ Status.Done) ⊎ (ended.status ≡ Status.Execution)) }
+    ensures compile { (source : NamesSource (H.meaning host.old).outside (texts words.now)) →
+        MeetsNoFault (H.meaning host.old).counts (H.meaning host.new).counts →
+        IfOk result (λ ended. (ended.status ≡ Status.Compile) ↔ ¬ (CanRun (map name solvers.old.items) source.taken)) }
+    ensures execution { (source : NamesSource (H.meaning host.old).outside (texts words.now)) →
+        MeetsNoFault (H.meaning host.old).counts (H.meaning host.new).counts →
+        IfOk result (λ ended. (ended.status ≡ Status.Execution) ↔
+        IsStopped (solving name rule paths solvers.old.items solvers.new.items ended.answers.items) source.taken) }
+    ensures complete { NamesProgram (map name solvers.old.items) (H.meaning host.old).outside (texts words.now) →
+        MeetsNoFault (H.meaning host.old).counts (H.meaning host.new).counts →
+        IfOk result (λ ended. (ended.status ≡ Status.Done) ⊎ (ended.status ≡ Status.Execution)) }
 {
     let mut run = Run::new(alloc)?;
     let status = run_words(alloc, words, host, solvers, &mut run)?;

@@ -63,7 +63,9 @@ fn write_all<H: Host>(host: &mut H, bytes: &[u8]) -> Result<(), Failed>
 
 /// Writes a file of a name, and closes it.
 pub(crate) fn write_file<H: Host>(host: &mut H, file: &str, bytes: &[u8]) -> Result<(), Failed>
-    ensures outside { ResultsIn result (λ done. (H.meaning host.new).outside ≡ with_file (H.meaning host.old).outside file.now bytes.now) (IsUnwrittenFile (H.meaning host.old).outside (H.meaning host.new).outside file.now bytes.now) }
+    ensures outside { ResultsIn result (λ done. (H.meaning host.new).outside ≡
+        with_file (H.meaning host.old).outside file.now bytes.now)
+        (IsUnwrittenFile (H.meaning host.old).outside (H.meaning host.new).outside file.now bytes.now) }
     ensures counts { CountsWriting result (H.meaning host.old).counts (H.meaning host.new).counts }
 {
     host.open_out(file)?;

@@ -56,10 +56,12 @@ use gq_field::ExactField;
 /// GAMS User's Guide, "Data Manipulations with Parameters", controlled indices; "Sets as Sequences:
 /// Ordered Sets".
 pub fn label_laws<F: ExactField>()
-    ensures occur { (program : Program F) (before : List (Stmt F)) (statement : Stmt F) (depth : ℕ) (within : List ℕ) (name : ℕ) (suffix : Suffix) (indices : Indices F) (binding : Pairs) →
+    ensures occur { (program : Program F) (before : List (Stmt F)) (statement : Stmt F) (depth : ℕ) (within : List ℕ) (name : ℕ)
+        (suffix : Suffix) (indices : Indices F) (binding : Pairs) →
         IsAccepted F.value program → FollowsIn program before statement → InStatement depth within (reads name suffix indices) [] statement →
         OccurForLabels binding within → OccurForLabels binding (index_sets indices) }
-    ensures few { (program : Program F) (before : List (Stmt F)) (statement : Stmt F) (depth : ℕ) (within : List ℕ) (name : ℕ) (suffix : Suffix) (indices : Indices F) →
+    ensures few { (program : Program F) (before : List (Stmt F)) (statement : Stmt F) (depth : ℕ) (within : List ℕ) (name : ℕ)
+        (suffix : Suffix) (indices : Indices F) →
         IsAccepted F.value program → FollowsIn program before statement → InStatement depth within (reads name suffix indices) [] statement →
         index_count indices ≤ 10 }
     ensures tuple { (state : State) (binding : Pairs) (indices : Indices F) (those : List (Option ℕ)) →
@@ -84,7 +86,8 @@ pub fn run_laws<F: ExactField>()
     ensures simple { (world : World F) (before : List (Stmt F)) (statement : Stmt F) (set : ℕ) (first state : State) →
         FollowsIn world.program before statement → is_index_set (state_after F.value (length world.program.names) (sound before)) set ≡ true →
         MayBegin F.value world.program first → IsReached F.value F.limit world first state → IsSimple state set }
-    ensures once { (world : World F) (statement : Stmt F) (target : Target F) (condition : Option (Expr F)) (right_at : Place) (right : Expr F) (first state : State) (binding : Pairs) (given : AllGiven) →
+    ensures once { (world : World F) (statement : Stmt F) (target : Target F) (condition : Option (Expr F)) (right_at : Place)
+        (right : Expr F) (first state : State) (binding : Pairs) (given : AllGiven) →
         IsAccepted F.value world.program → IsStatementOf world.program statement →
         statement.act ≡ Assign target condition right_at (Value right) →
         MayBegin F.value world.program first → IsReached F.value F.limit world first state →
@@ -145,7 +148,8 @@ pub fn linear_laws<F: ExactField>()
 ///
 /// GAMS User's Guide, "Model and Solve Statements", "Equations".
 pub fn element_laws<F: ExactField>()
-    ensures { (world : World F) (first state : State) (statement : Stmt F) (model : Named) (word : Word) (objective : Named) (maximize : Bool) (lp : Lp Number) →
+    ensures { (world : World F) (first state : State) (statement : Stmt F) (model : Named) (word : Word) (objective : Named)
+        (maximize : Bool) (lp : Lp Number) →
         IsAccepted F.value world.program → IsStatementOf world.program statement → statement.act ≡ Solve model word objective maximize →
         MayBegin F.value world.program first → IsReached F.value F.limit world first state →
         program_lp F.value F.limit state world.program.statements.items model.name objective.name maximize statement.at ≡ Ok lp →

@@ -22,7 +22,8 @@ pub fn view_laws()
     ensures solvers { (one other : Program Frac) → program_view frac_value one ≡ program_view frac_value other → solvers_chosen one ≡ solvers_chosen other }
     ensures declared { (one other : Program Frac) → program_view frac_value one ≡ program_view frac_value other → declared_state one ≡ declared_state other }
     ensures assigned { (one other : Program Frac) → program_view frac_value one ≡ program_view frac_value other → dynamic_sets one ≡ dynamic_sets other }
-    ensures loaded { (one other : Program Frac) → program_view frac_value one ≡ program_view frac_value other → loaded frac_value one ≡ loaded frac_value other }
+    ensures loaded { (one other : Program Frac) → program_view frac_value one ≡ program_view frac_value other →
+        loaded frac_value one ≡ loaded frac_value other }
     ensures saved { (one other : Program Frac) (state : State) (solver : List ℕ) → program_view frac_value one ≡ program_view frac_value other →
         IsSavedBy one state solver → IsSavedBy other state solver }
     ensures joint { (one other : Program Frac) (from : ℕ) (solvers : List (List ℕ)) → program_view frac_value one ≡ program_view frac_value other →

@@ -192,7 +192,8 @@ fn is_saved_at(
 /// Whether a set that is not assigned has the members of the data.
 fn keeps_members(store: &Store<Frac>, first: &Store<Frac>, assigned: &Marks, name: u32) -> bool
     requires { declared_symbols store.now ≡ declared_symbols first.now }
-    ensures { IsTrue result ↔ (marked assigned.now name ≡ false → members_in (symbol_at store.now name).content ≡ members_in (symbol_at first.now name).content) }
+    ensures { IsTrue result ↔ (marked assigned.now name ≡ false → members_in (symbol_at store.now name).content ≡
+        members_in (symbol_at first.now name).content) }
 {
     if assigned.is_set(name) {
         return true;

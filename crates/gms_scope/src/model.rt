@@ -94,7 +94,8 @@ impl Drop for Models {
 impl Models {
     /// No models, of `names` names.
     pub fn new(alloc: Global, names: u32) -> Result<Models, AllocError>
-        ensures { IfOk result (λ models. AreModelsListed models × (models.equations.items ≡ []) × (models.models.items ≡ []) × (length models.places.items ≡ names)) }
+        ensures { IfOk result (λ models. AreModelsListed models × (models.equations.items ≡ []) × (models.models.items ≡ []) ×
+            (length models.places.items ≡ names)) }
     {
         let mut places = Vec::new(alloc);
         for _ in 0..names {
@@ -211,7 +212,8 @@ impl Models {
         requires there { place < length self.now.models.items }
         requires counted { AreModelsCounted defined.now self.now }
         ensures counted { IsCountedModel defined.now self.now.equations.items (recounted (model_at self.now.models.items place) result.0) }
-        ensures all { result.1 ≡ not (list_any (is_missing defined.now) (equations_within self.now.equations.items (model_at self.now.models.items place).equations)) }
+        ensures all { result.1 ≡ not (list_any (is_missing defined.now)
+            (equations_within self.now.equations.items (model_at self.now.models.items place).equations)) }
     {
         let model = &self.models[place];
         let equations = model.equations.within(self.equations.as_slice());

@@ -88,7 +88,8 @@ impl Order {
         ensures order { IsOrder self.new }
         ensures names { length self.new.first.items ≡ length self.old.first.items }
         ensures nodes { OnOk result
-            (entries_of_nodes self.new.nodes.items ≡ entries_of_nodes self.old.nodes.items ++ entry (length self.old.first.items) (entries_of_nodes self.old.nodes.items) name above) }
+            (entries_of_nodes self.new.nodes.items ≡ entries_of_nodes self.old.nodes.items ++
+            entry (length self.old.first.items) (entries_of_nodes self.old.nodes.items) name above) }
     {
         let at = name as usize;
         if at >= self.first.len() {

@@ -40,7 +40,8 @@ pub fn range(alloc: Global, from: &str, to: &str) -> Result<Vec<String>, SetFaul
 
 /// The first number of a range, and how many it has.
 fn numbers(from: &str, to: &str) -> Option<(u32, u32)>
-    ensures value { result ≡ (if is_range from.now to.now then Some (number_in_label from.now, number_in_label to.now - number_in_label from.now + 1) else None) }
+    ensures value { result ≡ (if is_range from.now to.now then Some
+        (number_in_label from.now, number_in_label to.now - number_in_label from.now + 1) else None) }
     ensures within_bound { IfSome result (λ numbers. numbers.0 + numbers.1 ≤ 2 ^ 32) }
 {
     let (first_text, first_digits) = parts(from);

@@ -42,21 +42,33 @@ pub fn write_laws()
 /// attributes and statuses, and so on.
 pub fn frame_laws()
     ensures value { (state : State) (name : ℕ) (t : List ℕ) (x : Extended) → Keeps state (after_value state name t x) name }
-    ensures value_leaves_members { (state : State) (name : ℕ) (t : List ℕ) (x : Extended) (other : ℕ) → members_of (after_value state name t x) other ≡ members_of state other }
-    ensures value_leaves_attributes { (state : State) (name : ℕ) (t : List ℕ) (x : Extended) (other : ℕ) (u : List ℕ) → attributes_of (after_value state name t x) other u ≡ attributes_of state other u }
-    ensures value_leaves_statuses { (state : State) (name : ℕ) (t : List ℕ) (x : Extended) (other : ℕ) → statuses_in (symbol_of (after_value state name t x) other).content ≡ statuses_in (symbol_of state other).content }
+    ensures value_leaves_members { (state : State) (name : ℕ) (t : List ℕ) (x : Extended) (other : ℕ) →
+        members_of (after_value state name t x) other ≡ members_of state other }
+    ensures value_leaves_attributes { (state : State) (name : ℕ) (t : List ℕ) (x : Extended) (other : ℕ) (u : List ℕ) →
+        attributes_of (after_value state name t x) other u ≡ attributes_of state other u }
+    ensures value_leaves_statuses { (state : State) (name : ℕ) (t : List ℕ) (x : Extended) (other : ℕ) →
+        statuses_in (symbol_of (after_value state name t x) other).content ≡ statuses_in (symbol_of state other).content }
     ensures membership { (state : State) (name : ℕ) (t : List ℕ) (on : Bool) → Keeps state (after_membership state name t on) name }
-    ensures membership_leaves_values { (state : State) (name : ℕ) (t : List ℕ) (on : Bool) (other : ℕ) (u : List ℕ) → value_of (after_membership state name t on) other u ≡ value_of state other u }
-    ensures membership_leaves_attributes { (state : State) (name : ℕ) (t : List ℕ) (on : Bool) (other : ℕ) (u : List ℕ) → attributes_of (after_membership state name t on) other u ≡ attributes_of state other u }
-    ensures membership_leaves_statuses { (state : State) (name : ℕ) (t : List ℕ) (on : Bool) (other : ℕ) → statuses_in (symbol_of (after_membership state name t on) other).content ≡ statuses_in (symbol_of state other).content }
+    ensures membership_leaves_values { (state : State) (name : ℕ) (t : List ℕ) (on : Bool) (other : ℕ) (u : List ℕ) →
+        value_of (after_membership state name t on) other u ≡ value_of state other u }
+    ensures membership_leaves_attributes { (state : State) (name : ℕ) (t : List ℕ) (on : Bool) (other : ℕ) (u : List ℕ) →
+        attributes_of (after_membership state name t on) other u ≡ attributes_of state other u }
+    ensures membership_leaves_statuses { (state : State) (name : ℕ) (t : List ℕ) (on : Bool) (other : ℕ) →
+        statuses_in (symbol_of (after_membership state name t on) other).content ≡ statuses_in (symbol_of state other).content }
     ensures attributes { (state : State) (name : ℕ) (t : List ℕ) (a : Attributes) → Keeps state (after_attributes state name t a) name }
-    ensures attributes_leave_values { (state : State) (name : ℕ) (t : List ℕ) (a : Attributes) (other : ℕ) (u : List ℕ) → value_of (after_attributes state name t a) other u ≡ value_of state other u }
-    ensures attributes_leave_members { (state : State) (name : ℕ) (t : List ℕ) (a : Attributes) (other : ℕ) → members_of (after_attributes state name t a) other ≡ members_of state other }
-    ensures attributes_leave_statuses { (state : State) (name : ℕ) (t : List ℕ) (a : Attributes) (other : ℕ) → statuses_in (symbol_of (after_attributes state name t a) other).content ≡ statuses_in (symbol_of state other).content }
+    ensures attributes_leave_values { (state : State) (name : ℕ) (t : List ℕ) (a : Attributes) (other : ℕ) (u : List ℕ) →
+        value_of (after_attributes state name t a) other u ≡ value_of state other u }
+    ensures attributes_leave_members { (state : State) (name : ℕ) (t : List ℕ) (a : Attributes) (other : ℕ) →
+        members_of (after_attributes state name t a) other ≡ members_of state other }
+    ensures attributes_leave_statuses { (state : State) (name : ℕ) (t : List ℕ) (a : Attributes) (other : ℕ) →
+        statuses_in (symbol_of (after_attributes state name t a) other).content ≡ statuses_in (symbol_of state other).content }
     ensures statuses { (state : State) (name model solver : ℕ) → Keeps state (after_statuses state name model solver) name }
-    ensures statuses_leave_values { (state : State) (name model solver : ℕ) (other : ℕ) (u : List ℕ) → value_of (after_statuses state name model solver) other u ≡ value_of state other u }
-    ensures statuses_leave_members { (state : State) (name model solver : ℕ) (other : ℕ) → members_of (after_statuses state name model solver) other ≡ members_of state other }
-    ensures statuses_leave_attributes { (state : State) (name model solver : ℕ) (other : ℕ) (u : List ℕ) → attributes_of (after_statuses state name model solver) other u ≡ attributes_of state other u }
+    ensures statuses_leave_values { (state : State) (name model solver : ℕ) (other : ℕ) (u : List ℕ) →
+        value_of (after_statuses state name model solver) other u ≡ value_of state other u }
+    ensures statuses_leave_members { (state : State) (name model solver : ℕ) (other : ℕ) →
+        members_of (after_statuses state name model solver) other ≡ members_of state other }
+    ensures statuses_leave_attributes { (state : State) (name model solver : ℕ) (other : ℕ) (u : List ℕ) →
+        attributes_of (after_statuses state name model solver) other u ≡ attributes_of state other u }
 {}
 
 /// How a solve may end: the number of the model's status, and its text too, determine which of them

@@ -34,7 +34,8 @@ pub fn an_answer<F: ExactField>()
 /// Under Bland's rule an answer over numbers of 63 bits, widened, is the answer over those of 127
 /// bits, unless a step of it did not fit.
 pub fn wide_answers()
-    ensures { (narrow : Lp Half) (wide : Lp Frac) (iterlim : ℕ) (a : Answer Half) (b : Answer Frac) → lp_numbers half_value narrow ≡ lp_numbers frac_value wide →
+    ensures { (narrow : Lp Half) (wide : Lp Frac) (iterlim : ℕ) (a : Answer Half) (b : Answer Frac) →
+        lp_numbers half_value narrow ≡ lp_numbers frac_value wide →
         IsWellFormed frac_value wide → answer_numbers frac_value b ≡ answer_numbers half_value a → ¬ (IsRefusedEnd a.end) →
         IsAnswer half_value (2 ^ 63 - 1) narrow iterlim Bland a → IsAnswer frac_value frac_limit wide iterlim Bland b }
 {}

@@ -41,7 +41,8 @@ fn bound_at_once<F: ExactField>(
     requires there { All (λ row. All (λ e. e.0 < length columns.now) row.entries) rows.now }
     requires objective { IfSome objective (λ column. column < length columns.now) }
     requires within_bound { length (steps_over F.value above (costs_of objective) rows.now columns.now (map F.value duals.now) F.limit) < 2 ^ 64 }
-    ensures fit { IfSome result (λ bound. first_unfit (steps_over F.value above (costs_of objective) rows.now columns.now (map F.value duals.now) F.limit) ≡ None) }
+    ensures fit { IfSome result (λ bound. first_unfit
+        (steps_over F.value above (costs_of objective) rows.now columns.now (map F.value duals.now) F.limit) ≡ None) }
     ensures value { IfSome result (λ bound. F.value bound ≡ sum_over F.value above (costs_of objective) rows.now columns.now (map F.value duals.now)) }
 {
     let costs = all_reduced_costs(alloc, columns.len(), rows, objective, duals)?;

@@ -75,7 +75,9 @@ pub(crate) fn columns_part<F: ExactField>(
     requires few { length columns.now ≤ 3000 }
     requires bounded { length (all_reduced_steps F.value F.limit (costs_of objective) rows.now (map F.value duals.now) 0 columns.now) < 2 ^ 64 }
     requires fit { first_unfit (all_reduced_steps F.value F.limit (costs_of objective) rows.now (map F.value duals.now) 0 columns.now) ≡ None }
-    requires within_bound { start.taken + length (columns_steps F.value F.limit above (reduced_costs F.value (costs_of objective) rows.now (map F.value duals.now)) (F.value start.sum) 0 columns.now) < 2 ^ 64 }
+    requires within_bound { start.taken + length (columns_steps F.value F.limit above
+        (reduced_costs F.value (costs_of objective) rows.now (map F.value duals.now)) (F.value start.sum) 0 columns.now) <
+        2 ^ 64 }
     ensures { Reaches F.value start.taken
         (columns_steps F.value F.limit above (reduced_costs F.value (costs_of objective) rows.now (map F.value duals.now)) (F.value start.sum) 0 columns.now)
         (columns_sum F.value above (reduced_costs F.value (costs_of objective) rows.now (map F.value duals.now)) (F.value start.sum) 0 columns.now) result }
@@ -100,7 +102,8 @@ pub(crate) fn columns_part_by<F: ExactField>(
     start: Partial<F>,
 ) -> Result<Partial<F>, StepName>
     requires sized { length costs.now ≡ length columns.now }
-    requires within_bound { start.taken + length (columns_steps F.value F.limit above (value_of_column (map F.value costs.now)) (F.value start.sum) 0 columns.now) < 2 ^ 64 }
+    requires within_bound { start.taken + length (columns_steps F.value F.limit above (value_of_column (map F.value costs.now))
+        (F.value start.sum) 0 columns.now) < 2 ^ 64 }
     ensures { Reaches F.value start.taken
         (columns_steps F.value F.limit above (value_of_column (map F.value costs.now)) (F.value start.sum) 0 columns.now)
         (columns_sum F.value above (value_of_column (map F.value costs.now)) (F.value start.sum) 0 columns.now) result }

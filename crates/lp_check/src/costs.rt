@@ -54,7 +54,8 @@ fn less_entries<F: ExactField>(costs: &mut [F], entries: &[(u32, F)], factor: F)
     requires ordered { AllPairs (λ a b. a.0 < b.0) entries.now }
     requires there { All (λ e. e.0 < length costs.old) entries.now }
     ensures sized { length costs.new ≡ length costs.old }
-    ensures less { IfSome result (λ done. Lessened F.limit (F.value factor) (entry_of F.value entries.now) (value_of_column (map F.value costs.old)) (value_of_column (map F.value costs.new))) }
+    ensures less { IfSome result (λ done. Lessened F.limit (F.value factor) (entry_of F.value entries.now)
+        (value_of_column (map F.value costs.old)) (value_of_column (map F.value costs.new))) }
 {
     for entry in entries {
         let column = entry.0 as usize;
@@ -74,7 +75,8 @@ fn less_row<F: ExactField>(costs: &mut [F], row: &Row<F>, dual: F) -> Option<()>
     requires ordered { AllPairs (λ a b. a.0 < b.0) row.now.entries }
     requires there { All (λ e. e.0 < length costs.old) row.now.entries }
     ensures sized { length costs.new ≡ length costs.old }
-    ensures less { IfSome result (λ done. Lessened F.limit (F.value dual) (λ j. entry_in F.value j row.now) (value_of_column (map F.value costs.old)) (value_of_column (map F.value costs.new))) }
+    ensures less { IfSome result (λ done. Lessened F.limit (F.value dual) (λ j. entry_in F.value j row.now)
+        (value_of_column (map F.value costs.old)) (value_of_column (map F.value costs.new))) }
 {
     if asks_nothing(row) {
         return Some(());
@@ -95,8 +97,10 @@ pub(crate) fn all_reduced_costs<F: ExactField>(
     requires there { All (λ row. All (λ e. e.0 < count) row.entries) rows.now }
     requires objective { IfSome objective (λ column. column < count) }
     ensures sized { IfSome result (λ costs. length costs.items ≡ count) }
-    ensures fit { IfSome result (λ costs. (j : ℕ) → first_unfit (reduced_cost_bound_steps F.value F.limit j (costs_of objective j) rows.now (map F.value duals.now)) ≡ None) }
-    ensures costs { IfSome result (λ costs. (j : ℕ) → value_of_column (map F.value costs.items) j ≡ reduced_costs F.value (costs_of objective) rows.now (map F.value duals.now) j) }
+    ensures fit { IfSome result (λ costs. (j : ℕ) →
+        first_unfit (reduced_cost_bound_steps F.value F.limit j (costs_of objective j) rows.now (map F.value duals.now)) ≡ None) }
+    ensures costs { IfSome result (λ costs. (j : ℕ) → value_of_column (map F.value costs.items) j ≡
+        reduced_costs F.value (costs_of objective) rows.now (map F.value duals.now) j) }
 {
     let Ok(mut costs) = all_costs(alloc, count, objective) else {
         return None;

@@ -180,7 +180,8 @@ impl<F: ExactField> Dict<F> {
     /// The number of a variable in the row of a basic one; 0 if the first is not basic, and if the
     /// second is basic or no variable.
     pub fn entry(&self, basic: u32, other: u32) -> F
-        ensures row { (k : ℕ) → slice_get self.now.basic k ≡ Some basic → ¬ (Contains self.now.basic other) → F.value result ≡ entry_at (dictionary F.value self.now) k other }
+        ensures row { (k : ℕ) → slice_get self.now.basic k ≡ Some basic → ¬ (Contains self.now.basic other) → F.value result ≡
+            entry_at (dictionary F.value self.now) k other }
         ensures not_basic { ¬ (Contains self.now.basic basic) → F.value result ≡ whole (pos 0) }
         ensures both_basic { Contains self.now.basic other → F.value result ≡ whole (pos 0) }
         ensures no_variable { self.now.variables < other → F.value result ≡ whole (pos 0) }
@@ -194,7 +195,8 @@ impl<F: ExactField> Dict<F> {
     /// The number of a variable in the priced row: that of variable 0 in phase 1, then the
     /// objective. It is 0 for a basic variable, and for a number that is no variable.
     pub fn coefficient(&self, v: u32) -> F
-        ensures priced { (k : ℕ) → IsPriced (dictionary F.value self.now) k → ¬ (Contains self.now.basic v) → F.value result ≡ entry_at (dictionary F.value self.now) k v }
+        ensures priced { (k : ℕ) → IsPriced (dictionary F.value self.now) k → ¬ (Contains self.now.basic v) → F.value result ≡
+            entry_at (dictionary F.value self.now) k v }
         ensures basic { Contains self.now.basic v → F.value result ≡ whole (pos 0) }
         ensures no_variable { self.now.variables < v → F.value result ≡ whole (pos 0) }
     {
@@ -225,7 +227,8 @@ impl<F: ExactField> Dict<F> {
     /// variables with the least constant, which is below 0, the least leaves.
     pub fn opening(&self) -> Option<Pivot>
         ensures { MatchOption result (¬ (OpeningIsRequired (dictionary F.value self.now)))
-            (λ p. ((k : ℕ) × IsOpening (dictionary F.value self.now) p k) × ((i : ℕ) → IsLeast (dictionary F.value self.now) i → p.leave ≤ basic_at (dictionary F.value self.now) i)) }
+            (λ p. ((k : ℕ) × IsOpening (dictionary F.value self.now) p k) ×
+            ((i : ℕ) → IsLeast (dictionary F.value self.now) i → p.leave ≤ basic_at (dictionary F.value self.now) i)) }
     {
         match &self.body {
             Body::Whole(rows, upcoming) => opening_of(rows, *upcoming),

@@ -19,7 +19,8 @@ fn by_variable<F: ExactField>(
 ) -> Result<Vec<F>, AllocError>
     requires bounded { rows.now.bound ≤ F.limit }
     requires column { column ≤ (dictionary_of rows.now).variables + 1 }
-    ensures { IfOk result (λ list. AreByVariable F.value (dictionary_of rows.now) ((dictionary_of rows.now).variables + 1) column (length (dictionary_of rows.now).basic) list.items) }
+    ensures { IfOk result (λ list. AreByVariable F.value (dictionary_of rows.now) ((dictionary_of rows.now).variables + 1) column
+        (length (dictionary_of rows.now).basic) list.items) }
 {
     rows.keeps();
     let mut list = zeros(alloc, rows.variables() as usize + 1)?;

@@ -20,7 +20,8 @@ use std::cmp::Ordering;
 pub(crate) fn opening_of(rows: &Whole, upcoming: u64) -> Option<Pivot>
     requires { upcoming ≢ 1 → ¬ (OpeningIsRequired (dictionary_of rows.now)) }
     ensures { MatchOption result (¬ (OpeningIsRequired (dictionary_of rows.now)))
-        (λ p. ((k : ℕ) × IsOpening (dictionary_of rows.now) p k) × ((i : ℕ) → IsLeast (dictionary_of rows.now) i → p.leave ≤ basic_at (dictionary_of rows.now) i)) }
+        (λ p. ((k : ℕ) × IsOpening (dictionary_of rows.now) p k) ×
+        ((i : ℕ) → IsLeast (dictionary_of rows.now) i → p.leave ≤ basic_at (dictionary_of rows.now) i)) }
 {
     if upcoming != 1 {
         return None;
@@ -123,7 +124,8 @@ fn free_entry<F: ExactField>(rows: &Whole, row: usize, v: u32) -> F
 /// second is basic or no variable.
 pub(crate) fn entry<F: ExactField>(rows: &Whole, basic: u32, other: u32) -> F
     requires { rows.now.bound ≤ F.limit }
-    ensures row { (k : ℕ) → slice_get (dictionary_of rows.now).basic k ≡ Some basic → ¬ (Contains (dictionary_of rows.now).basic other) → F.value result ≡ entry_at (dictionary_of rows.now) k other }
+    ensures row { (k : ℕ) → slice_get (dictionary_of rows.now).basic k ≡ Some basic →
+        ¬ (Contains (dictionary_of rows.now).basic other) → F.value result ≡ entry_at (dictionary_of rows.now) k other }
     ensures not_basic { ¬ (Contains (dictionary_of rows.now).basic basic) → F.value result ≡ whole (pos 0) }
     ensures both_basic { Contains (dictionary_of rows.now).basic other → F.value result ≡ whole (pos 0) }
     ensures no_variable { (dictionary_of rows.now).variables < other → F.value result ≡ whole (pos 0) }
@@ -139,7 +141,8 @@ pub(crate) fn entry<F: ExactField>(rows: &Whole, basic: u32, other: u32) -> F
 /// variable.
 pub(crate) fn coefficient<F: ExactField>(rows: &Whole, v: u32) -> F
     requires { rows.now.bound ≤ F.limit }
-    ensures priced { (k : ℕ) → IsPriced (dictionary_of rows.now) k → ¬ (Contains (dictionary_of rows.now).basic v) → F.value result ≡ entry_at (dictionary_of rows.now) k v }
+    ensures priced { (k : ℕ) → IsPriced (dictionary_of rows.now) k → ¬ (Contains (dictionary_of rows.now).basic v) →
+        F.value result ≡ entry_at (dictionary_of rows.now) k v }
     ensures basic { Contains (dictionary_of rows.now).basic v → F.value result ≡ whole (pos 0) }
     ensures no_variable { (dictionary_of rows.now).variables < v → F.value result ≡ whole (pos 0) }
 {

@@ -86,7 +86,8 @@ impl<F: ExactField> Entries<F> {
     /// Puts a number at a key; a key with the number 0 leaves the map.
     fn put(&mut self, k: Key, number: F) -> Result<(), AllocError>
         ensures constant { self.new.constant ≡ self.old.constant }
-        ensures numbers { OnOk result ((key : Key) → coefficient F.value self.new key ≡ (if same_key k key then F.value number else coefficient F.value self.old key)) }
+        ensures numbers { OnOk result ((key : Key) → coefficient F.value self.new key ≡
+            (if same_key k key then F.value number else coefficient F.value self.old key)) }
     {
         if number.is_zero() {
             self.numbers.remove(&k);
@@ -106,7 +107,8 @@ impl<F: ExactField> Entries<F> {
         requires ordered { AreOrdered keys.now }
         requires paired { length numbers.now ≡ length keys.now }
         ensures constant { self.new.constant ≡ self.old.constant }
-        ensures numbers { OnOk result ((key : Key) → coefficient F.value self.new key ≡ number_or F.value (coefficient F.value self.old key) keys.now numbers.now key) }
+        ensures numbers { OnOk result ((key : Key) → coefficient F.value self.new key ≡
+            number_or F.value (coefficient F.value self.old key) keys.now numbers.now key) }
     {
         for (i, key) in keys.iter().enumerate() {
             let copy = key.copy(alloc)?;

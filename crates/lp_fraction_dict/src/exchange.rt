@@ -77,9 +77,11 @@ pub(crate) fn turn<F: ExactField>(
     column: u32,
 ) -> Result<(), LineFault>
     requires within { place < length rows.old.items }
-    requires rows { (high : ℕ) × ((k : ℕ) → IsRow F.value 0 high (slice_index_or (entries_of_rows rows.old.items) k [])) × IsRow F.value 0 high objective.old.items }
+    requires rows { (high : ℕ) × ((k : ℕ) → IsRow F.value 0 high (slice_index_or (entries_of_rows rows.old.items) k [])) ×
+        IsRow F.value 0 high objective.old.items }
     requires some { number_in F.value (slice_index_or (entries_of_rows rows.old.items) place []) column ≢ whole (pos 0) }
-    ensures { (high : ℕ) → ((k : ℕ) → IsRow F.value 0 high (slice_index_or (entries_of_rows rows.old.items) k [])) → IsRow F.value 0 high objective.old.items → OnLine
+    ensures { (high : ℕ) → ((k : ℕ) → IsRow F.value 0 high (slice_index_or (entries_of_rows rows.old.items) k [])) →
+        IsRow F.value 0 high objective.old.items → OnLine
         (λ _. (length (entries_of_rows rows.new.items) ≡ length (entries_of_rows rows.old.items)) × IsTurned F.value F.limit high
         (line (entries_of_rows rows.old.items) objective.old.items) place column
         (line (entries_of_rows rows.new.items) objective.new.items))

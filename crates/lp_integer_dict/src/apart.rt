@@ -68,7 +68,8 @@ fn made_apart(
     requires within { (place < length lines.now) × (leaving < length lines.now) }
     requires small { bound < 2 ^ 127 }
     requires above { whole (pos 0) <ℚ lines_number lines.now place column }
-    ensures { IfOk result (λ o. MatchOption o (MadeRowsExceed bound column place leaving lines.now) (λ made. AreExchangedWithin bound column place leaving lines.now made.items)) }
+    ensures { IfOk result (λ o. MatchOption o (MadeRowsExceed bound column place leaving lines.now)
+        (λ made. AreExchangedWithin bound column place leaving lines.now made.items)) }
 {
     let plans = plan_lines(alloc, lines, place, column, &lines[place], MOST)?;
     let Some(plans) = plans else {

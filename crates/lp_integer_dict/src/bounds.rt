@@ -84,7 +84,8 @@ fn keeps_each(lines: &[Line], plans: &[Factors], place: usize, leaving: usize, b
     requires lines { (width : ℕ) × AreLines width lines.now × (1 < width) }
     requires within { (place < length lines.now) × (leaving < length lines.now) }
     requires planned { (column : ℕ) × ((p : Line) → slice_get lines.now place ≡ Some p → IsPlan bound column place lines.now p plans.now) }
-    ensures { (p l : Line) (g : Factors) → slice_get lines.now place ≡ Some p → slice_get lines.now leaving ≡ Some l → slice_get plans.now leaving ≡ Some g → IsTrue result ↔ DeferredStaysWithinAfter leaving p l g lines.now plans.now bound }
+    ensures { (p l : Line) (g : Factors) → slice_get lines.now place ≡ Some p → slice_get lines.now leaving ≡ Some l →
+        slice_get plans.now leaving ≡ Some g → IsTrue result ↔ DeferredStaysWithinAfter leaving p l g lines.now plans.now bound }
 {
     let pivot = &lines[place];
     let of_leaving = plans[leaving];
@@ -112,7 +113,8 @@ pub(crate) fn deferred_stays_within_after(
     requires lines { (width : ℕ) × AreLines width lines.now × (1 < width) }
     requires within { (place < length lines.now) × (leaving < length lines.now) }
     requires planned { (column : ℕ) × ((p : Line) → slice_get lines.now place ≡ Some p → IsPlan bound column place lines.now p plans.now) }
-    ensures { (p l : Line) (g : Factors) → slice_get lines.now place ≡ Some p → slice_get lines.now leaving ≡ Some l → slice_get plans.now leaving ≡ Some g → IsTrue result ↔ DeferredStaysWithinAfter leaving p l g lines.now plans.now bound }
+    ensures { (p l : Line) (g : Factors) → slice_get lines.now place ≡ Some p → slice_get lines.now leaving ≡ Some l →
+        slice_get plans.now leaving ≡ Some g → IsTrue result ↔ DeferredStaysWithinAfter leaving p l g lines.now plans.now bound }
 {
     if is_small_after(plans, bound) {
         return true;

@@ -57,7 +57,8 @@ fn constant_below(lines: &[Line], deferred: Option<usize>, place: usize) -> Opti
     requires lines { (width bound : ℕ) × AreWhole lines.now deferred width bound }
     requires within { place < length lines.now }
     ensures { MatchOption result (¬ (numbers_above deferred (lines_number lines.now) place 0 <ℚ whole (pos 0)))
-        (λ f. IsFraction f × (numbers_above deferred (lines_number lines.now) place 0 <ℚ whole (pos 0)) × (fraction f ≡ numbers_above deferred (lines_number lines.now) place 0)) }
+        (λ f. IsFraction f × (numbers_above deferred (lines_number lines.now) place 0 <ℚ whole (pos 0)) ×
+        (fraction f ≡ numbers_above deferred (lines_number lines.now) place 0)) }
 {
     let constant = read(lines, deferred, place, 0);
     if constant.numerator < 0 {

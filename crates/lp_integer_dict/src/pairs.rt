@@ -55,7 +55,8 @@ fn divisor_of_row(lines: &[Line], deferred: Option<usize>, place: usize, width: 
     ensures positive { 0 < result }
     ensures denominator { result ∣ line_denominator deferred lines.now place }
     ensures numbers { (c : ℕ) → c < width → result ∣ nat_abs (row_number deferred lines.now place c) }
-    ensures greatest { (d : ℕ) → d ∣ line_denominator deferred lines.now place → ((c : ℕ) → c < width → d ∣ nat_abs (row_number deferred lines.now place c)) → d ∣ result }
+    ensures greatest { (d : ℕ) → d ∣ line_denominator deferred lines.now place →
+        ((c : ℕ) → c < width → d ∣ nat_abs (row_number deferred lines.now place c)) → d ∣ result }
 {
     let mut divisor = read(lines, deferred, place, 0).denominator;
     for c in 0..width {
@@ -71,7 +72,8 @@ fn most_of_row(lines: &[Line], deferred: Option<usize>, place: usize, width: usi
     requires within { place < length lines.now }
     ensures denominator { line_denominator deferred lines.now place ≤ result }
     ensures numbers { (c : ℕ) → c < width → nat_abs (row_number deferred lines.now place c) ≤ result }
-    ensures least { (b : ℕ) → line_denominator deferred lines.now place ≤ b → ((c : ℕ) → c < width → nat_abs (row_number deferred lines.now place c) ≤ b) → result ≤ b }
+    ensures least { (b : ℕ) → line_denominator deferred lines.now place ≤ b →
+        ((c : ℕ) → c < width → nat_abs (row_number deferred lines.now place c) ≤ b) → result ≤ b }
 {
     let mut most = read(lines, deferred, place, 0).denominator;
     for c in 0..width {

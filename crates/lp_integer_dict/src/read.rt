@@ -56,7 +56,8 @@ fn number_above(line: &Line, pivot: &Line, column: usize) -> i128
     requires sized { length (wholes pivot.now) ≡ length (wholes line.now) }
     requires zero { 1 < length (wholes line.now) }
     requires within_bound { line.now.most * nat_abs (whole_at (wholes pivot.now) 1) + nat_abs (whole_at (wholes line.now) 1) * pivot.now.most < 2 ^ 127 }
-    ensures { result ≡ whole_at (wholes pivot.now) 1 *ℤ whole_at (wholes line.now) column -ℤ whole_at (wholes line.now) 1 *ℤ whole_at (wholes pivot.now) column }
+    ensures { result ≡ whole_at (wholes pivot.now) 1 *ℤ whole_at (wholes line.now) column -ℤ whole_at
+        (wholes line.now) 1 *ℤ whole_at (wholes pivot.now) column }
 {
     if column > 1 && line.marks.includes(column) {
         return line.numbers.cross_at(&pivot.numbers, 1, column);
@@ -79,7 +80,8 @@ fn read_above(line: &Line, pivot: &Line, column: usize) -> Fraction
     requires sized { length (wholes pivot.now) ≡ length (wholes line.now) }
     requires zero { 1 < length (wholes line.now) }
     requires within_bound { line.now.most * nat_abs (whole_at (wholes pivot.now) 1) + nat_abs (whole_at (wholes line.now) 1) * pivot.now.most < 2 ^ 127 }
-    ensures numerator { result.numerator ≡ whole_at (wholes pivot.now) 1 *ℤ whole_at (wholes line.now) column -ℤ whole_at (wholes line.now) 1 *ℤ whole_at (wholes pivot.now) column }
+    ensures numerator { result.numerator ≡ whole_at (wholes pivot.now) 1 *ℤ whole_at (wholes line.now) column -ℤ whole_at
+        (wholes line.now) 1 *ℤ whole_at (wholes pivot.now) column }
     ensures denominator { result.denominator ≡ nat_abs (whole_at (wholes pivot.now) 1) * line.now.denominator }
 {
     let numerator = number_above(line, pivot, column);

@@ -25,7 +25,8 @@ fn plan_once(
     requires small { bound < 2 ^ 127 }
     requires bounded { AreBounded bound lines.now }
     requires above { whole (pos 0) <ℚ lines_number lines.now place column }
-    ensures { IfOk result (λ o. MatchOption o (FactorsExceed bound column place leaving lines.now) (λ plans. IsRoomyPlan bound column place leaving lines.now plans.items)) }
+    ensures { IfOk result (λ o. MatchOption o (FactorsExceed bound column place leaving lines.now)
+        (λ plans. IsRoomyPlan bound column place leaving lines.now plans.items)) }
 {
     let plans = plan_lines(alloc, lines, place, column, &lines[place], bound)?;
     let Some(plans) = plans else {
@@ -55,7 +56,8 @@ fn plan_exchange(
     requires bounded { AreBounded bound lines.old.items }
     requires above { whole (pos 0) <ℚ lines_number lines.old.items place column }
     ensures same { IfOk result (λ _. AreSameLines lines.old.items lines.new.items) }
-    ensures planned { IfOk result (λ o. MatchOption o (FactorsExceed bound column place leaving lines.new.items) (λ plans. IsRoomyPlan bound column place leaving lines.new.items plans.items)) }
+    ensures planned { IfOk result (λ o. MatchOption o (FactorsExceed bound column place leaving lines.new.items)
+        (λ plans. IsRoomyPlan bound column place leaving lines.new.items plans.items)) }
 {
     let plans = plan_once(alloc, lines.as_slice(), place, leaving, column, bound)?;
     if plans.is_some() {

@@ -124,7 +124,8 @@ impl Whole {
     /// variables with the least constant, which is below 0, the least leaves.
     pub fn opening(&self) -> Option<Pivot>
         ensures { MatchOption result (¬ (OpeningIsRequired (integer_dictionary self.now)))
-            (λ p. ((k : ℕ) × IsOpening (integer_dictionary self.now) p k) × ((i : ℕ) → IsLeast (integer_dictionary self.now) i → p.leave ≤ basic_at (integer_dictionary self.now) i)) }
+            (λ p. ((k : ℕ) × IsOpening (integer_dictionary self.now) p k) ×
+            ((i : ℕ) → IsLeast (integer_dictionary self.now) i → p.leave ≤ basic_at (integer_dictionary self.now) i)) }
     {
         match least_constant(self.lines.as_slice(), self.deferred, self.basic.as_slice()) {
             Some(candidate) => Some(Pivot {
@@ -446,7 +447,8 @@ impl Whole {
         ensures proper { IsProper (integer_dictionary self.now) }
         ensures sized { self.now.variables + 2 < 2 ^ 32 }
         ensures bound { self.now.bound < 2 ^ 127 }
-        ensures past { (k c : ℕ) → length self.now.basic ≤ k → (integer_dictionary self.now).numbers k c ≡ (integer_dictionary self.now).numbers (length self.now.basic) c }
+        ensures past { (k c : ℕ) → length self.now.basic ≤ k → (integer_dictionary self.now).numbers k c ≡
+            (integer_dictionary self.now).numbers (length self.now.basic) c }
         ensures outside { (k c : ℕ) → self.now.variables + 2 ≤ c → (integer_dictionary self.now).numbers k c ≡ whole (pos 0) }
     {
         let _bound = self.bound;

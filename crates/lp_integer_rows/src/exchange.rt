@@ -27,7 +27,8 @@ pub fn plan_lines(
     requires pivot { IsLine pivot.now }
     requires above { pos 0 <ℤ whole_at (wholes pivot.now) column }
     requires bounded { AreBounded bound lines.now }
-    ensures { IfOk result (λ o. MatchOption o (IsSomeCrowded bound column place lines.now pivot.now) (λ plans. ArePlanned bound column place lines.now pivot.now plans.items (length lines.now))) }
+    ensures { IfOk result (λ o. MatchOption o (IsSomeCrowded bound column place lines.now pivot.now)
+        (λ plans. ArePlanned bound column place lines.now pivot.now plans.items (length lines.now))) }
 {
     let mut plans = Vec::with_capacity(alloc, lines.len())?;
     for i in 0..lines.len() {
@@ -59,7 +60,8 @@ fn apply_plans(
     requires pivot { IsLine pivot.now }
     requires places { ArePlaces (wholes pivot.now) (length (wholes pivot.now)) places.now }
     requires planned { (bound column : ℕ) × IsPlan bound column place lines.old.items pivot.now plans.now }
-    ensures { IfOk result (λ _. (bound column : ℕ) → IsPlan bound column place lines.old.items pivot.now plans.now → AreLinesExchanged column place pivot.now plans.now lines.old.items lines.new.items (length lines.old.items)) }
+    ensures { IfOk result (λ _. (bound column : ℕ) → IsPlan bound column place lines.old.items pivot.now plans.now →
+        AreLinesExchanged column place pivot.now plans.now lines.old.items lines.new.items (length lines.old.items)) }
 {
     for i in 0..lines.len() {
         if i != place {

@@ -217,8 +217,10 @@ fn lessen_line(
     requires line { IsLine line.old }
     requires pivot { IsLine pivot.now }
     requires sized { length (wholes pivot.now) ≡ length (wholes line.old) }
-    requires planned { (bound column : ℕ) × (bound < 2 ^ 127) × IsPlanned bound column line.old pivot.now factors × (pos 0 <ℤ whole_at (wholes pivot.now) column) }
-    ensures { IfOk result (λ _. (bound column : ℕ) → bound < 2 ^ 127 → pos 0 <ℤ whole_at (wholes pivot.now) column → IsPlanned bound column line.old pivot.now factors → IsLessenedLine column line.old pivot.now line.new factors) }
+    requires planned { (bound column : ℕ) × (bound < 2 ^ 127) × IsPlanned bound column line.old pivot.now factors ×
+        (pos 0 <ℤ whole_at (wholes pivot.now) column) }
+    ensures { IfOk result (λ _. (bound column : ℕ) → bound < 2 ^ 127 → pos 0 <ℤ whole_at (wholes pivot.now) column →
+        IsPlanned bound column line.old pivot.now factors → IsLessenedLine column line.old pivot.now line.new factors) }
 {
     let most = line.numbers.lessen(
         alloc,
@@ -242,8 +244,10 @@ fn lessen_once(line: &mut Line, factors: Factors, pivot: &Line, places: &[usize]
     requires sized { length (wholes pivot.now) ≡ length (wholes line.old) }
     requires once { factors.line ≡ pos 1 }
     requires places { ArePlaces (wholes pivot.now) (length (wholes pivot.now)) places.now }
-    requires planned { (bound column : ℕ) × (bound < 2 ^ 127) × IsPlanned bound column line.old pivot.now factors × (pos 0 <ℤ whole_at (wholes pivot.now) column) }
-    ensures lessened { result ≡ true → (bound column : ℕ) → bound < 2 ^ 127 → pos 0 <ℤ whole_at (wholes pivot.now) column → IsPlanned bound column line.old pivot.now factors → IsLessenedLine column line.old pivot.now line.new factors }
+    requires planned { (bound column : ℕ) × (bound < 2 ^ 127) × IsPlanned bound column line.old pivot.now factors ×
+        (pos 0 <ℤ whole_at (wholes pivot.now) column) }
+    ensures lessened { result ≡ true → (bound column : ℕ) → bound < 2 ^ 127 → pos 0 <ℤ whole_at (wholes pivot.now) column →
+        IsPlanned bound column line.old pivot.now factors → IsLessenedLine column line.old pivot.now line.new factors }
     ensures same { result ≡ false → line.new ≡ line.old }
 {
     let least = line.most;
@@ -266,8 +270,10 @@ fn lessen_quickly(line: &mut Line, factors: Factors, pivot: &Line, places: &[usi
     requires pivot { IsLine pivot.now }
     requires sized { length (wholes pivot.now) ≡ length (wholes line.old) }
     requires places { ArePlaces (wholes pivot.now) (length (wholes pivot.now)) places.now }
-    requires planned { (bound column : ℕ) × (bound < 2 ^ 127) × IsPlanned bound column line.old pivot.now factors × (pos 0 <ℤ whole_at (wholes pivot.now) column) }
-    ensures lessened { result ≡ true → (bound column : ℕ) → bound < 2 ^ 127 → pos 0 <ℤ whole_at (wholes pivot.now) column → IsPlanned bound column line.old pivot.now factors → IsLessenedLine column line.old pivot.now line.new factors }
+    requires planned { (bound column : ℕ) × (bound < 2 ^ 127) × IsPlanned bound column line.old pivot.now factors ×
+        (pos 0 <ℤ whole_at (wholes pivot.now) column) }
+    ensures lessened { result ≡ true → (bound column : ℕ) → bound < 2 ^ 127 → pos 0 <ℤ whole_at (wholes pivot.now) column →
+        IsPlanned bound column line.old pivot.now factors → IsLessenedLine column line.old pivot.now line.new factors }
     ensures same { result ≡ false → line.new ≡ line.old }
 {
     if factors.line == 1 {
@@ -289,8 +295,10 @@ fn lessen(
     requires pivot { IsLine pivot.now }
     requires sized { length (wholes pivot.now) ≡ length (wholes line.old) }
     requires places { ArePlaces (wholes pivot.now) (length (wholes pivot.now)) places.now }
-    requires planned { (bound column : ℕ) × (bound < 2 ^ 127) × IsPlanned bound column line.old pivot.now factors × (pos 0 <ℤ whole_at (wholes pivot.now) column) }
-    ensures { IfOk result (λ _. (bound column : ℕ) → bound < 2 ^ 127 → pos 0 <ℤ whole_at (wholes pivot.now) column → IsPlanned bound column line.old pivot.now factors → IsLessenedLine column line.old pivot.now line.new factors) }
+    requires planned { (bound column : ℕ) × (bound < 2 ^ 127) × IsPlanned bound column line.old pivot.now factors ×
+        (pos 0 <ℤ whole_at (wholes pivot.now) column) }
+    ensures { IfOk result (λ _. (bound column : ℕ) → bound < 2 ^ 127 → pos 0 <ℤ whole_at (wholes pivot.now) column →
+        IsPlanned bound column line.old pivot.now factors → IsLessenedLine column line.old pivot.now line.new factors) }
 {
     if lessen_quickly(line, factors, pivot, places) {
         return Ok(());
@@ -329,8 +337,10 @@ pub(crate) fn apply(
     requires pivot { IsLine pivot.now }
     requires sized { length (wholes pivot.now) ≡ length (wholes line.old) }
     requires places { ArePlaces (wholes pivot.now) (length (wholes pivot.now)) places.now }
-    requires planned { (bound column : ℕ) × (bound < 2 ^ 127) × IsPlanned bound column line.old pivot.now factors × (pos 0 <ℤ whole_at (wholes pivot.now) column) }
-    ensures { IfOk result (λ _. (bound column : ℕ) → bound < 2 ^ 127 → pos 0 <ℤ whole_at (wholes pivot.now) column → IsPlanned bound column line.old pivot.now factors → IsLessenedLine column line.old pivot.now line.new factors) }
+    requires planned { (bound column : ℕ) × (bound < 2 ^ 127) × IsPlanned bound column line.old pivot.now factors ×
+        (pos 0 <ℤ whole_at (wholes pivot.now) column) }
+    ensures { IfOk result (λ _. (bound column : ℕ) → bound < 2 ^ 127 → pos 0 <ℤ whole_at (wholes pivot.now) column →
+        IsPlanned bound column line.old pivot.now factors → IsLessenedLine column line.old pivot.now line.new factors) }
 {
     if factors.pivot == 0 {
         return Ok(());

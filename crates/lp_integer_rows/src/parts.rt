@@ -61,7 +61,8 @@ fn scaled(part: Part, multiple: u128) -> Option<i128>
     requires some { 0 < multiple }
     requires small { multiple < 2 ^ 127 }
     requires divides { part.denominator ∣ multiple }
-    ensures { MatchOption result (2 ^ 127 ≤ nat_abs part.numerator * (multiple / part.denominator)) (λ n. (nat_abs n < 2 ^ 127) × (ratio n multiple ≡ ratio part.numerator part.denominator)) }
+    ensures { MatchOption result (2 ^ 127 ≤ nat_abs part.numerator * (multiple / part.denominator))
+        (λ n. (nat_abs n < 2 ^ 127) × (ratio n multiple ≡ ratio part.numerator part.denominator)) }
 {
     let factor = multiple / part.denominator;
     let Some(_magnitude) = product_within(MOST, part.numerator.unsigned_abs(), factor) else {
@@ -132,7 +133,8 @@ fn fill(
     requires there { AreWithinColumns width parts.now }
     requires apart { HaveDistinctColumns parts.now }
     requires multiple { IsMultiple parts.now (length parts.now) multiple }
-    ensures { IfOk result (λ o. MatchOption o (IsSomePast parts.now multiple) (λ numbers. AreFilled parts.now multiple width (length parts.now) numbers.items)) }
+    ensures { IfOk result (λ o. MatchOption o (IsSomePast parts.now multiple)
+        (λ numbers. AreFilled parts.now multiple width (length parts.now) numbers.items)) }
 {
     let mut numbers = zeros(alloc, width)?;
     for i in 0..parts.len() {

@@ -138,7 +138,8 @@ impl Numbers {
         requires sized { length others.now ≡ length self.now }
         requires zero { zero < length self.now }
         requires place { place < length self.now }
-        requires within_bound { nat_abs (whole_at others.now zero) * nat_abs (whole_at self.now place) + nat_abs (whole_at self.now zero) * nat_abs (whole_at others.now place) < 2 ^ 127 }
+        requires within_bound { nat_abs (whole_at others.now zero) * nat_abs (whole_at self.now place) + nat_abs
+            (whole_at self.now zero) * nat_abs (whole_at others.now place) < 2 ^ 127 }
         ensures { result ≡ whole_at others.now zero *ℤ whole_at self.now place -ℤ whole_at self.now zero *ℤ whole_at others.now place }
     {
         if let Kept::Narrow(own) = &self.kept {

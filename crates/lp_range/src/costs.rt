@@ -115,7 +115,8 @@ fn gain_of<F: ExactField>(
 ) -> Option<F>
     requires there { other ≤ dict.now.variables }
     requires placed { IsPlaced dict.now.basic column }
-    ensures { IsFound F.value (cost_gain F.limit (dictionary F.value dict.now) maximize (column.first.variable, shift_value F.value column.shift) other) result }
+    ensures { IsFound F.value (cost_gain F.limit (dictionary F.value dict.now) maximize
+        (column.first.variable, shift_value F.value column.shift) other) result }
 {
     match column_change_of(dict, other, column) {
         Some(gained) => Some(directed(maximize, gained).neg()),

@@ -37,7 +37,8 @@ pub(crate) fn form_of<F: ExactField>(alloc: Global, lp: &Lp<F>) -> Result<Standa
 /// The dictionary after a pivot whose steps all fit. The only error is out of memory.
 fn after<F: ExactField>(alloc: Global, dict: Dict<F>, pivot: Pivot) -> Result<Dict<F>, AllocError>
     requires { (k : ℕ) × IsLegal (dictionary F.value dict) pivot k × AllFit (exchange_steps F.limit dict.upcoming (dictionary F.value dict) pivot.enter k) }
-    ensures exchanged { IfOk result (λ made. (k : ℕ) → slice_get dict.basic k ≡ Some pivot.leave → dictionary F.value made ≡ exchanged (dictionary F.value dict) pivot.enter k) }
+    ensures exchanged { IfOk result (λ made. (k : ℕ) → slice_get dict.basic k ≡ Some pivot.leave → dictionary F.value made ≡
+        exchanged (dictionary F.value dict) pivot.enter k) }
     ensures of_form { IfOk result (λ made. (s : StandardNumbers) → IsDictionaryOf s (dictionary F.value dict) → IsDictionaryOf s (dictionary F.value made)) }
     ensures upcoming { IfOk result (λ made. made.upcoming ≡ counted (dict.upcoming + 1)) }
 {
@@ -57,7 +58,8 @@ pub(crate) fn replayed<F: ExactField>(
 ) -> Result<Dict<F>, AllocError>
     requires upcoming { first.upcoming ≡ 1 }
     requires leads { (last : Dictionary) × LeadsWithin (ByRule Legal) F.limit 1 [] (dictionary F.value first) pivots.now last }
-    ensures reached { IfOk result (λ made. (last : Dictionary) → LeadsWithin (ByRule Legal) F.limit 1 [] (dictionary F.value first) pivots.now last → dictionary F.value made ≡ last) }
+    ensures reached { IfOk result (λ made. (last : Dictionary) →
+        LeadsWithin (ByRule Legal) F.limit 1 [] (dictionary F.value first) pivots.now last → dictionary F.value made ≡ last) }
     ensures of_form { IfOk result (λ made. (s : StandardNumbers) → IsDictionaryOf s (dictionary F.value first) → IsDictionaryOf s (dictionary F.value made)) }
 {
     let mut dict = first;
