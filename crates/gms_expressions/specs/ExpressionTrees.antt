@@ -24,7 +24,8 @@ use Rattle.gms_grammar.specs.declared.terminal.Terminal.{Terminal}
 use Rattle.gms_grammar.specs.declared.terminal.Terminal.TheVariants as terminal
 use Rattle.gq_number.specs.Number.{Number}
 use Rattle.gms_expressions.specs.Valuations.{number_meant}
-use Rattle.gms_grammar.specs.Grammar.{DerivationTree, leaf, pair, left, right, none, some, more, node, yield}
+use Rattle.gms_grammar.specs.Grammar.{DerivationTree, leaf, pair, none, some, more, node, yield}
+use Rattle.gms_grammar.specs.Alternatives.{primary_constant, primary_target, primary_call, primary_fold, primary_expression, index_label, index_set, amount_number, amount_scalar, amount_expression, call_function, call_set, control_set, control_sets}
 
 -- a word is this one, letter case ignored
 abbrev pub is_word : List ℕ → List ℕ → Bool
@@ -175,8 +176,8 @@ module _ (source : List ℕ) (names labels : List (List ℕ)) where
 
   -- the sets of a control: one, or those in parentheses
   abbrev pub sets_in : DerivationTree (Terminal × Token) → List ℕ
-  sets_in (left name) = name_in name ∷ []
-  sets_in (right (pair _ (pair list _))) = names_in list
+  sets_in (control_set name) = name_in name ∷ []
+  sets_in (control_sets (pair _ (pair list _))) = names_in list
   sets_in _ = []
 
   -- `ord` or `card` of a set
@@ -288,11 +289,11 @@ module _ (source : List ℕ) (names labels : List (List ℕ)) where
 
     -- an operand: a constant, a reference, a call, a fold, or an expression in parentheses
     pub primary : DerivationTree (Terminal × Token) → Syntax Number
-    primary (node (left tree)) = constant_in tree
-    primary (node (right (left tree))) = target tree
-    primary (node (right (right (left tree)))) = call_of tree
-    primary (node (right (right (right (left tree))))) = fold_of tree
-    primary (node (right (right (right (right tree))))) = bracketed_expression tree
+    primary (node (primary_constant tree)) = constant_in tree
+    primary (node (primary_target tree)) = target tree
+    primary (node (primary_call tree)) = call_of tree
+    primary (node (primary_fold tree)) = fold_of tree
+    primary (node (primary_expression tree)) = bracketed_expression tree
     primary _ = no
 
     pub bracketed_expression : DerivationTree (Terminal × Token) → Syntax Number
@@ -301,8 +302,8 @@ module _ (source : List ℕ) (names labels : List (List ℕ)) where
 
     -- a call of a function, or of `ord` or `card`
     pub call_of : DerivationTree (Terminal × Token) → Syntax Number
-    call_of (node (left tree)) = function_call tree
-    call_of (node (right tree)) = set_call tree
+    call_of (node (call_function tree)) = function_call tree
+    call_of (node (call_set tree)) = set_call tree
     call_of _ = no
 
     pub function_call : DerivationTree (Terminal × Token) → Syntax Number
@@ -346,9 +347,9 @@ module _ (source : List ℕ) (names labels : List (List ℕ)) where
 
     -- an index before others: a label, or a set, perhaps with a lag
     pub index : DerivationTree (Terminal × Token) → Indices Number → Indices Number
-    index (node (left text)) rest = label (label_in text) rest
-    index (node (right (pair name none))) rest = set (name_in name) rest
-    index (node (right (pair name (some tree)))) rest = lag (name_in name) tree rest
+    index (node (index_label text)) rest = label (label_in text) rest
+    index (node (index_set (pair name none))) rest = set (name_in name) rest
+    index (node (index_set (pair name (some tree)))) rest = lag (name_in name) tree rest
     index _ rest = rest
 
     pub lag : ℕ → DerivationTree (Terminal × Token) → Indices Number → Indices Number
@@ -356,9 +357,9 @@ module _ (source : List ℕ) (names labels : List (List ℕ)) where
     lag name _ rest = rest
 
     pub lag_amount : DerivationTree (Terminal × Token) → Syntax Number
-    lag_amount (node (left tree)) = number_tree tree
-    lag_amount (node (right (left tree))) = scalar tree
-    lag_amount (node (right (right tree))) = bracketed_expression tree
+    lag_amount (node (amount_number tree)) = number_tree tree
+    lag_amount (node (amount_scalar tree)) = scalar tree
+    lag_amount (node (amount_expression tree)) = bracketed_expression tree
     lag_amount _ = no
 
     -- the sets of a fold or a loop, and the condition

@@ -16,6 +16,7 @@ pub mod Reading
 pub mod Terminals
 pub mod Keywords
 pub mod GamsGrammar
+pub mod Alternatives
 pub mod GamsLookAhead
 pub mod PlainGrammar
 pub mod Rules

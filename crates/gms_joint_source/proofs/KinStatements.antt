@@ -17,7 +17,8 @@ use Rattle.gms_ast.specs.Trees as trees
 use Rattle.gms_ast.specs.StatementTrees.{Act, aliases, assigns, defines, solves, displays, sets_options, aborts, Target as Aim, Sides as Relation}
 use Rattle.gms_grammar.specs.declared.terminal.Terminal.{Terminal}
 use Rattle.gms_grammar.specs.declared.terminal.Terminal.TheVariants as terminal
-use Rattle.gms_grammar.specs.Grammar.{one, the, ◌∣◌, opt, DerivationTree, pair, left, right, none, node}
+use Rattle.gms_grammar.specs.Grammar.{one, the, ◌∣◌, opt, pair, none, node}
+use Rattle.gms_grammar.specs.Alternatives.{head_label, head_set}
 use Rattle.gms_grammar.specs.GamsGrammar.{Nonterminal, Condition, NamedStatement, HeadIndices, AfterHeadName, AfterHeadIndex, AfterHead, AfterTarget, Sides, Assignment, AliasStatement, DisplayStatement, ShownList, Shown, OptionStatement, Setting, SolveStatement, AbortStatement, productions, token, name, word}
 use Rattle.gms_expressions.specs.Valuations.{number_meant}
 use Rattle.gms_expressions.specs.ExpressionTrees.{token_of, place_in, name_in, expression, condition}
@@ -50,10 +51,10 @@ indices_after (trees.lagged n op at amount others) = others
 
 -- the part after an index of a head: further indices, and an act
 abbrev following_indices : List ℕ → List (List ℕ) → List (List ℕ) → Derivation → trees.Indices Rational
-following_indices source names labels tree = indices_after (head_indices source names labels (node (left (pair none tree))))
+following_indices source names labels tree = indices_after (head_indices source names labels (node (head_label (pair none tree))))
 
 abbrev act_after : List ℕ → List (List ℕ) → List (List ℕ) → Aim Rational → Derivation → Act Rational
-act_after source names labels aim tree = act_of_head source names labels aim (node (left (pair none tree)))
+act_after source names labels aim tree = act_of_head source names labels aim (node (head_label (pair none tree)))
 
 module _ (first second : List ℕ) (names wider labels larger : List (List ℕ)) where
   abbrev K : GamsPart → Derivation → Type 0
@@ -89,7 +90,7 @@ module _ (first second : List ℕ) (names wider labels larger : List (List ℕ))
   SaysActed AfterTarget tree = FollowingTarget tree
   SaysActed AfterHead tree = FollowingHead tree
   SaysActed HeadIndices tree = InHead tree
-  SaysActed AfterHeadName tree = (it : Derivation) → name_in first names labels it ≡ name_in second wider larger it → InHead (node (right (pair it tree)))
+  SaysActed AfterHeadName tree = (it : Derivation) → name_in first names labels it ≡ name_in second wider larger it → InHead (node (head_set (pair it tree)))
   SaysActed AfterHeadIndex tree = AfterIndex tree
   SaysActed NamedStatement tree = named_act first names labels tree ≡ named_act second wider larger tree
   SaysActed Assignment tree = assignment_act first names labels tree ≡ assignment_act second wider larger tree

@@ -10,6 +10,7 @@ use Rattle.gms_grammar.specs.declared.terminal.Terminal.TheVariants.{Name, Suffi
 use Rattle.gms_grammar.specs.Grammar.{the, ◌·◌, ◌∣◌, opt, many, leaf, pair, left, right, none, some, more, node, yield}
 use Rattle.gms_grammar.specs.Reading.{read, stuck, leads, Reads, Takes, taken, refused, entered, entered_stuck, both, first_stuck, second_stuck, in_left, in_left_stuck, in_right, in_right_stuck, in_neither, left_out, there, there_stuck, no_more, again, again_stuck, later_stuck, takes_one, takes_the, takes_first, takes_second, takes_left, takes_right, takes_opt, takes_many, takes_later}
 use Rattle.gms_grammar.specs.Terminals.{is, is_terminal_among}
+use Rattle.gms_grammar.specs.Alternatives.{name_suffixed, name_indexed, name_alone, head_label, head_set, head_lag, head_lagless, head_comma, head_closed}
 use Rattle.gms_grammar.specs.GamsGrammar.{Nonterminal, Expression, Condition, Target, Attribute, IndexList, Index, Lag, NamedStatement, AfterName, HeadIndices, AfterHeadName, AfterHeadIndex, AfterLag, AfterHead, AfterTarget, Sides, productions, token, name, bracketed}
 use Rattle.gms_grammar.specs.GamsLookAhead.{look_ahead}
 use Rattle.gms_grammar.proofs.Basics.{and_first, both_ways, end_nil}
@@ -105,7 +106,7 @@ plain_led ts h = led_more (bracketed (the IndexList)) plain_rest ts refl refl re
 -- ---- an index
 
 -- after a name without a lag
-after_name : (ts : List KindedToken) → leads productions look_ahead (the Lag) ts ≡ false → Leading (the AfterHeadName) ts [] (the AfterHeadIndex) ts (λ b. node (right b))
+after_name : (ts : List KindedToken) → leads productions look_ahead (the Lag) ts ≡ false → Leading (the AfterHeadName) ts [] (the AfterHeadIndex) ts (λ b. node (head_lagless b))
 after_name ts h = record {
   reads = λ a following r. entered (in_right (sym (lag_alike ts) ∙ h) (led r) r);
   yields = λ a. refl;
@@ -129,10 +130,10 @@ after_name ts h = record {
 record PlainIndex (first : Derivation) (ts between : List KindedToken) : Type 0 where
   wrap : Derivation → Derivation
   leading : Leading (the HeadIndices) ts (yield first) (the AfterHeadIndex) between wrap
-  act_on : (source : List ℕ) (s : Sense) (target : TargetTree Number) (comma t : Derivation) → act_of_head source s.names s.labels target (wrap (node (left (pair comma t)))) ≡ act_of_head source s.names s.labels target t
-  act_closed : (source : List ℕ) (s : Sense) (target : TargetTree Number) (closing t : Derivation) → act_of_head source s.names s.labels target (wrap (node (right (pair closing t)))) ≡ after_head source s.names s.labels target t
-  indices_on : (source : List ℕ) (s : Sense) (comma t : Derivation) → head_indices source s.names s.labels (wrap (node (left (pair comma t)))) ≡ index source s.names s.labels first (head_indices source s.names s.labels t)
-  indices_closed : (source : List ℕ) (s : Sense) (closing t : Derivation) → head_indices source s.names s.labels (wrap (node (right (pair closing t)))) ≡ index source s.names s.labels first no_index
+  act_on : (source : List ℕ) (s : Sense) (target : TargetTree Number) (comma t : Derivation) → act_of_head source s.names s.labels target (wrap (node (head_comma (pair comma t)))) ≡ act_of_head source s.names s.labels target t
+  act_closed : (source : List ℕ) (s : Sense) (target : TargetTree Number) (closing t : Derivation) → act_of_head source s.names s.labels target (wrap (node (head_closed (pair closing t)))) ≡ after_head source s.names s.labels target t
+  indices_on : (source : List ℕ) (s : Sense) (comma t : Derivation) → head_indices source s.names s.labels (wrap (node (head_comma (pair comma t)))) ≡ index source s.names s.labels first (head_indices source s.names s.labels t)
+  indices_closed : (source : List ℕ) (s : Sense) (closing t : Derivation) → head_indices source s.names s.labels (wrap (node (head_closed (pair closing t)))) ≡ index source s.names s.labels first no_index
   lagless : (source : List ℕ) (s : Sense) (rest : Indices Number) → has_lag (index source s.names s.labels first rest) ≡ has_lag rest
 
 -- an index with a lag, after which an assignment continues
@@ -145,7 +146,7 @@ record LaggedIndex (first : Derivation) (ts between : List KindedToken) : Type 0
 
 index_goes : {ts between : List KindedToken} {first : Derivation} → Reads productions look_ahead (the Index) ts (read first between) → PlainIndex first ts between ⊎ LaggedIndex first ts between
 index_goes {ts} (entered (in_left h (taken {token = t} k))) = inl (record {
-  wrap = λ b. node (left (pair (leaf t) b));
+  wrap = λ b. node (head_label (pair (leaf t) b));
   leading = lead_the HeadIndices (lead_left (led_first (is Text) (the AfterHeadIndex) ts h) (lead_second (taken k) lead_here));
   act_on = λ source s target comma b. refl;
   act_closed = λ source s target closing b. refl;
@@ -154,7 +155,7 @@ index_goes {ts} (entered (in_left h (taken {token = t} k))) = inl (record {
   lagless = λ source s rest. refl;
 })
 index_goes {ts} {between} (entered (in_right h k (both {a = w} r (left_out l)))) = inl (record {
-  wrap = λ b. node (right (pair w (node (right b))));
+  wrap = λ b. node (head_set (pair w (node (head_lagless b))));
   leading = lead_the HeadIndices (lead_right (unled_next (is Text) (the AfterHeadIndex) ts h) (name_led ts k) (lead_second r (after_name between l)));
   act_on = λ source s target comma b. refl;
   act_closed = λ source s target closing b. refl;
@@ -163,7 +164,7 @@ index_goes {ts} {between} (entered (in_right h k (both {a = w} r (left_out l))))
   lagless = λ source s rest. refl;
 })
 index_goes {ts} (entered (in_right h k (both {between = us} {a = w} r (there l (entered (both {a = sign} {b = amount} p q)))))) = inr (record {
-  wrap = λ b. node (right (pair w (node (left (pair (node (pair sign amount)) b)))));
+  wrap = λ b. node (head_set (pair w (node (head_lag (pair (node (pair sign amount)) b)))));
   leading = lead_same (ap (λ v. yield w ++ v) (end_nil (yield sign ++ yield amount)))
       (lead_the HeadIndices (lead_right (unled_next (is Text) (the AfterHeadIndex) ts h) (name_led ts k) (lead_second r (lead_the AfterHeadName (lead_left (sym (lag_alike us) ∙ l) (lead_second (entered (both p q)) lead_here))))));
   act_is = λ source s target others closing b. refl;
@@ -178,8 +179,8 @@ record PlainList (first others : Derivation) (ts rest : List KindedToken) : Type
   wrap : Derivation → Derivation
   leading : Leading (the HeadIndices) ts (yield first ++ yield others) (the AfterHeadIndex) rest wrap
   over : leads productions look_ahead (token Comma · the Index) rest ≡ false
-  act_closed : (source : List ℕ) (s : Sense) (target : TargetTree Number) (closing t : Derivation) → act_of_head source s.names s.labels target (wrap (node (right (pair closing t)))) ≡ after_head source s.names s.labels target t
-  indices_are : (source : List ℕ) (s : Sense) (closing t : Derivation) → head_indices source s.names s.labels (wrap (node (right (pair closing t)))) ≡ index source s.names s.labels first (more_indices source s.names s.labels others)
+  act_closed : (source : List ℕ) (s : Sense) (target : TargetTree Number) (closing t : Derivation) → act_of_head source s.names s.labels target (wrap (node (head_closed (pair closing t)))) ≡ after_head source s.names s.labels target t
+  indices_are : (source : List ℕ) (s : Sense) (closing t : Derivation) → head_indices source s.names s.labels (wrap (node (head_closed (pair closing t)))) ≡ index source s.names s.labels first (more_indices source s.names s.labels others)
   lagless : (source : List ℕ) (s : Sense) → has_lag (index source s.names s.labels first (more_indices source s.names s.labels others)) ≡ false
 
 -- indices of which some has a lag
@@ -204,18 +205,18 @@ lag_goes first others l m = record {
 before_plain : {ts between us rest : List KindedToken} {comma : KindedToken} (first second others : Derivation) → PlainIndex first ts between → leads productions look_ahead (token Comma · the Index) between ≡ true → Reads productions look_ahead (token Comma) between (read (leaf comma) us) →
     PlainList second others us rest → PlainList first (more (pair (leaf comma) second) others) ts rest
 before_plain {between = between} {comma = comma} first second others p h c l = record {
-  wrap = λ b. p.wrap (node (left (pair (leaf comma) (l.wrap b))));
+  wrap = λ b. p.wrap (node (head_comma (pair (leaf comma) (l.wrap b))));
   leading = lead_then p.leading (lead_the AfterHeadIndex (lead_left (sym (comma_alike between) ∙ h) (lead_second c l.leading)));
   over = l.over;
-  act_closed = λ source s target closing b. p.act_on source s target (leaf comma) (l.wrap (node (right (pair closing b)))) ∙ l.act_closed source s target closing b;
-  indices_are = λ source s closing b. p.indices_on source s (leaf comma) (l.wrap (node (right (pair closing b)))) ∙ ap (index source s.names s.labels first) (l.indices_are source s closing b);
+  act_closed = λ source s target closing b. p.act_on source s target (leaf comma) (l.wrap (node (head_closed (pair closing b)))) ∙ l.act_closed source s target closing b;
+  indices_are = λ source s closing b. p.indices_on source s (leaf comma) (l.wrap (node (head_closed (pair closing b)))) ∙ ap (index source s.names s.labels first) (l.indices_are source s closing b);
   lagless = λ source s. p.lagless source s (index source s.names s.labels second (more_indices source s.names s.labels others)) ∙ l.lagless source s;
 }
 
 before_lagged : {ts between us rest : List KindedToken} {comma : KindedToken} (first second others : Derivation) → PlainIndex first ts between → leads productions look_ahead (token Comma · the Index) between ≡ true → Reads productions look_ahead (token Comma) between (read (leaf comma) us) →
     LaggedList second others us rest → LaggedList first (more (pair (leaf comma) second) others) ts rest
 before_lagged {between = between} {comma = comma} first second others p h c l = record {
-  wrap = λ b. p.wrap (node (left (pair (leaf comma) (l.wrap b))));
+  wrap = λ b. p.wrap (node (head_comma (pair (leaf comma) (l.wrap b))));
   leading = lead_then p.leading (lead_the AfterHeadIndex (lead_left (sym (comma_alike between) ∙ h) (lead_second c l.leading)));
   act_closed = λ source s target closing b. p.act_on source s target (leaf comma) (l.wrap (pair closing b)) ∙ l.act_closed source s target closing b;
   indices_are = λ source s b. p.indices_on source s (leaf comma) (l.wrap b) ∙ ap (index source s.names s.labels first) (l.indices_are source s b);
@@ -349,7 +350,7 @@ abbrev unconditioned : GamsPart
 unconditioned = the Condition ∣ token Equals · the Expression ∣ token DotDot · the Sides
 
 -- neither a suffix nor indices
-bare : (ts : List KindedToken) → leads productions look_ahead (the Attribute) ts ≡ false → leads productions look_ahead (bracketed (the IndexList)) ts ≡ false → Leading (the AfterName) ts [] (the AfterHead) ts (λ b. node (right (right b)))
+bare : (ts : List KindedToken) → leads productions look_ahead (the Attribute) ts ≡ false → leads productions look_ahead (bracketed (the IndexList)) ts ≡ false → Leading (the AfterName) ts [] (the AfterHead) ts (λ b. node (name_alone b))
 bare ts h k = record {
   reads = λ a following r. entered (in_right (sym (dotted_alike ts) ∙ h) (led_more (the AfterHead) plain_rest ts refl refl refl (led r)) (in_right (sym (paren_alike ts) ∙ k) (led r) r));
   yields = λ a. refl;
@@ -381,11 +382,11 @@ bare ts h k = record {
 headed : {ts us vs rest : List KindedToken} {opening closing : KindedToken} (word first others : Derivation) → Reads productions look_ahead name ts (read word us) → leads productions look_ahead (the Attribute) us ≡ false → leads productions look_ahead (bracketed (the IndexList)) us ≡ true →
     Reads productions look_ahead (token LeftParen) us (read (leaf opening) vs) → is RightParen closing.0 ≡ true → PlainList first others vs (closing ∷ rest) → Headed (node (pair word (pair none (some (pair (leaf opening) (pair (node (pair first others)) (leaf closing))))))) ts rest
 headed {us = us} {rest = rest} {opening = opening} {closing = closing} word first others r h k o c l = record {
-  wrap = λ b. node (pair word (node (right (left (pair (leaf opening) (l.wrap (node (right (pair (leaf closing) b)))))))));
+  wrap = λ b. node (pair word (node (name_indexed (pair (leaf opening) (l.wrap (node (head_closed (pair (leaf closing) b))))))));
   leading = lead_the NamedStatement (lead_second r (lead_the AfterName (lead_right (sym (dotted_alike us) ∙ h) (plain_led us k) (lead_left (sym (paren_alike us) ∙ k) (lead_second o (lead_then l.leading
       (lead_the AfterHeadIndex (lead_right (sym (comma_alike (closing ∷ rest)) ∙ l.over) (led_first (is RightParen) (the AfterHead) (closing ∷ rest) c) (lead_second (taken c) lead_here)))))))));
   acts = λ source s b.
-      let inner = l.wrap (node (right (pair (leaf closing) b))) in
+      let inner = l.wrap (node (head_closed (pair (leaf closing) b))) in
       l.act_closed source s (target_at source s.names s.labels word suffix.None (head_indices source s.names s.labels inner)) (leaf closing) b
       ∙ ap (λ is. after_head source s.names s.labels (target_at source s.names s.labels word suffix.None is) b) (l.indices_are source s (leaf closing) b);
   plain = λ source s. ap not (l.lagless source s);
@@ -394,7 +395,7 @@ headed {us = us} {rest = rest} {opening = opening} {closing = closing} word firs
 aimed : {ts us vs rest : List KindedToken} {opening closing : KindedToken} (word first others : Derivation) → Reads productions look_ahead name ts (read word us) → leads productions look_ahead (the Attribute) us ≡ false → leads productions look_ahead (bracketed (the IndexList)) us ≡ true →
     Reads productions look_ahead (token LeftParen) us (read (leaf opening) vs) → is RightParen closing.0 ≡ true → LaggedList first others vs (closing ∷ rest) → Aimed (node (pair word (pair none (some (pair (leaf opening) (pair (node (pair first others)) (leaf closing))))))) ts rest
 aimed {us = us} {rest = rest} {opening = opening} {closing = closing} word first others r h k o c l = record {
-  wrap = λ b. node (pair word (node (right (left (pair (leaf opening) (l.wrap (pair (leaf closing) b)))))));
+  wrap = λ b. node (pair word (node (name_indexed (pair (leaf opening) (l.wrap (pair (leaf closing) b))))));
   leading = lead_the NamedStatement (lead_second r (lead_the AfterName (lead_right (sym (dotted_alike us) ∙ h) (plain_led us k) (lead_left (sym (paren_alike us) ∙ k) (lead_second o (lead_then l.leading (lead_second (taken c) lead_here)))))));
   acts = λ source s b.
       let inner = l.wrap (pair (leaf closing) b) in
@@ -406,7 +407,7 @@ aimed {us = us} {rest = rest} {opening = opening} {closing = closing} word first
 dotted : {ts us vs rest : List KindedToken} (word attribute indices : Derivation) → Reads productions look_ahead name ts (read word us) → leads productions look_ahead (the Attribute) us ≡ true → Reads productions look_ahead (the Attribute) us (read attribute vs) → Reads productions look_ahead (opt (bracketed (the IndexList))) vs (read indices rest) →
     Aimed (node (pair word (pair (some attribute) indices))) ts rest
 dotted {us = us} word attribute indices r h a m = record {
-  wrap = λ b. node (pair word (node (left (pair attribute (pair indices b)))));
+  wrap = λ b. node (pair word (node (name_suffixed (pair attribute (pair indices b)))));
   leading = lead_same (ap (λ v. yield word ++ (yield attribute ++ v)) (end_nil (yield indices))) (lead_the NamedStatement (lead_second r (lead_the AfterName (lead_left (sym (dotted_alike us) ∙ h) (lead_second a (lead_second m lead_here))))));
   acts = λ source s b. refl;
   other = λ source s. and_first _ _ (attributed a source s);
@@ -415,7 +416,7 @@ dotted {us = us} word attribute indices r h a m = record {
 pub target_goes : {ts rest : List KindedToken} {tree : Derivation} → Reads productions look_ahead (the Target) ts (read tree rest) → Headed tree ts rest ⊎ Aimed tree ts rest
 target_goes (entered (both {a = word} r (both (there {tree = attribute} h a) m))) = inr (dotted word attribute _ r h a m)
 target_goes (entered (both {between = us} {a = word} r (both (left_out h) (left_out k)))) = inl (record {
-  wrap = λ b. node (pair word (node (right (right b))));
+  wrap = λ b. node (pair word (node (name_alone b)));
   leading = lead_the NamedStatement (lead_second r (bare us h k));
   acts = λ source s b. refl;
   plain = λ source s. refl;

@@ -3,7 +3,8 @@
 use Rattle.std.proofs.Common.{◌≡◌, ℕ, ◌-◌, ◌<◌, ◌≤◌, false, List, [], ◌∷◌, ◌++◌, map, length, refl, sym, ap, ◌∙◌, subst, arith, append_assoc, inl, inr}
 use Rattle.std.proofs.lemmas.List.{append-nil, map-append}
 use Rattle.gms_grammar.specs.declared.terminal.Terminal.TheVariants.{Comma, Break}
-use Rattle.gms_grammar.specs.Grammar.{the, ◌·◌, ◌∣◌, opt, leaf, pair, left, right, none, some, node}
+use Rattle.gms_grammar.specs.Grammar.{the, ◌·◌, ◌∣◌, opt, leaf, pair, none, some, node}
+use Rattle.gms_grammar.specs.Alternatives.{items_comma, items_line}
 use Rattle.gms_grammar.specs.Reading.{leads}
 use Rattle.gms_grammar.specs.Terminals.{is}
 use Rattle.gms_grammar.specs.GamsGrammar.{Nonterminal, productions, token, name}
@@ -63,8 +64,8 @@ further_ahead reader at following (inr p) = let f = p.0.next.further in omega ar
 
 -- a further item follows the one before it in the tree
 abbrev further_tree : (reader : Reader) (at following : ℕ) → IsFurther reader at following → Derivation → Derivation
-further_tree reader at following (inl p) tree = some (left (pair (leaf (Comma, p.token)) tree))
-further_tree reader at following (inr p) tree = some (right (pair (leaf (Break, p.0.token)) (some tree)))
+further_tree reader at following (inl p) tree = some (items_comma (pair (leaf (Comma, p.token)) tree))
+further_tree reader at following (inr p) tree = some (items_line (pair (leaf (Break, p.0.token)) (some tree)))
 
 module _ {item again : Nonterminal} (part : ItemPart item again) {limit : ℕ} (reader : Reader) (at following : ℕ) where
   further_within : {v : ReaderState} (f : IsFurther reader at following) → Within limit reader.source.now (further_of again) v (seen_from reader at) (the again) (further_read_state reader at following v f) (seen_from reader following) (further_tree reader at following f)
@@ -126,7 +127,7 @@ module _ {T A : Type 0} {limit : ℕ} {show : T → A} {meaning : Sense → Deri
         let unled = unled_next (is Comma) (the again) (seen_from reader at) n.0 in
         got_by
         (l.within.gives _ _ _ (gives_some (led_other (token Comma · the again) (token Break · opt (the again)) (seen_from reader at) led) (gives_right unled led (gives_both (gives_exact p.next refl) (gives_none (part.led (seen_from reader next) ∙ unnamed))))))
-        (stays_then l.stays (plain_stays reader l.following Break p.token next refl l.stays.has)) (λ sense s. sym (l.means sense s (some (right (pair (leaf (Break, p.token)) none))) ∙ append-nil (map show xs)))
+        (stays_then l.stays (plain_stays reader l.following Break p.token next refl l.stays.has)) (λ sense s. sym (l.means sense s (some (items_line (pair (leaf (Break, p.token)) none))) ∙ append-nil (map show xs)))
         (let a = l.further in let f = p.next.further in omega arith)
 
 -- the place after the last item

@@ -3,7 +3,8 @@ use Rattle.std.proofs.Common.{◌≡◌, ℕ, Bool, true, false, not, ◌&&◌, 
 use Rattle.std.proofs.lemmas.Bool.{not-true, not_from_false, and_from}
 use Rattle.gms_grammar.specs.declared.terminal.Terminal.{Terminal}
 use Rattle.gms_grammar.specs.declared.terminal.Terminal.TheVariants.{Alias, Equation, Model, Parameter, Scalar, Set, Table, Variable, VariableType, End}
-use Rattle.gms_grammar.specs.Grammar.{the, ◌∣◌, left, right, node}
+use Rattle.gms_grammar.specs.Grammar.{the, ◌∣◌, right, node}
+use Rattle.gms_grammar.specs.Alternatives.{keyword_variable, keyword_other}
 use Rattle.gms_grammar.specs.LookAhead.{may_begin}
 use Rattle.gms_grammar.specs.Terminals.{is_terminal_among}
 use Rattle.gms_grammar.specs.GamsGrammar.{KeywordStatement, SetStatement, ParameterStatement, ScalarStatement, TableStatement, VariableStatement, EquationStatement, ModelStatement, AliasStatement}
@@ -18,7 +19,7 @@ use Rattle.gms_parse.proofs.Choices.{at_once, in_first, in_other, in_node, way_w
 
 -- ---- variables
 
-pub variable_within : {limit : ℕ} {source : List ℕ} {w : ReaderState} (ts : List KindedToken) {k : Terminal} → k ≡ kind_of ts → (k ≡ VariableType) ⊎ (k ≡ Variable) → Within limit source (the KeywordStatement) w ts (the VariableStatement) w ts (λ t. node (right (right (right (right (left t))))))
+pub variable_within : {limit : ℕ} {source : List ℕ} {w : ReaderState} (ts : List KindedToken) {k : Terminal} → k ≡ kind_of ts → (k ≡ VariableType) ⊎ (k ≡ Variable) → Within limit source (the KeywordStatement) w ts (the VariableStatement) w ts (λ t. node (keyword_variable t))
 variable_within ts seen (inl e) = way_within {kind = VariableType} (in_node (in_other refl refl (in_other refl refl (in_other refl refl (in_other refl refl (in_first refl at_once)))))) (sym seen ∙ e) refl
 variable_within ts seen (inr e) = way_within {kind = Variable} (in_node (in_other refl refl (in_other refl refl (in_other refl refl (in_other refl refl (in_first refl at_once)))))) (sym seen ∙ e) refl
 
@@ -58,10 +59,10 @@ after_parameters = the ScalarStatement ∣ after_scalars
 abbrev after_sets : GamsPart
 after_sets = the ParameterStatement ∣ after_parameters
 
-inner_within : {limit : ℕ} {source : List ℕ} {w : ReaderState} {ts : List KindedToken} → is_inner (kind_of ts) ≡ true → Within limit source (the KeywordStatement) w ts other_statement w ts (λ t. node (right (right (right (right (right (right (right (right t)))))))))
+inner_within : {limit : ℕ} {source : List ℕ} {w : ReaderState} {ts : List KindedToken} → is_inner (kind_of ts) ≡ true → Within limit source (the KeywordStatement) w ts other_statement w ts (λ t. node (keyword_other t))
 inner_within k = within_then (within_the KeywordStatement) (within_then (past_other (the SetStatement) after_sets refl refl refl refl k) (within_then (past_other (the ParameterStatement) after_parameters refl refl refl refl k)
     (within_then (past_other (the ScalarStatement) after_scalars refl refl refl refl k) (within_then (past_other (the TableStatement) after_tables refl refl refl refl k) (within_then (past_other (the VariableStatement) after_variables refl refl refl refl k)
     (within_then (past_other (the EquationStatement) after_equations refl refl refl refl k) (within_then (past_other (the ModelStatement) after_models refl refl refl refl k) (past_other (the AliasStatement) other_statement refl refl refl refl k))))))))
 
-pub other_within : {limit : ℕ} {source : List ℕ} {w : ReaderState} (ts : List KindedToken) {k : Terminal} → k ≡ kind_of ts → is_keyword (kind_of ts) ≡ true → IsNone heads k → Within limit source (the KeywordStatement) w ts other_statement w ts (λ t. node (right (right (right (right (right (right (right (right t)))))))))
+pub other_within : {limit : ℕ} {source : List ℕ} {w : ReaderState} (ts : List KindedToken) {k : Terminal} → k ≡ kind_of ts → is_keyword (kind_of ts) ≡ true → IsNone heads k → Within limit source (the KeywordStatement) w ts other_statement w ts (λ t. node (keyword_other t))
 other_within ts {k} seen keyword none_of = inner_within (and_from _ _ keyword (not_from_false (is_terminal_among heads (kind_of ts)) (ap (is_terminal_among heads) (sym seen) ∙ not_among heads k none_of)))

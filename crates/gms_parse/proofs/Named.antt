@@ -9,7 +9,8 @@ use Rattle.gms_ast.specs.StatementView.{shown_tree, shown_target}
 use Rattle.gms_lex.specs.declared.token.Token.{Token}
 use Rattle.gms_grammar.specs.declared.terminal.Terminal.{Terminal}
 use Rattle.gms_grammar.specs.declared.terminal.Terminal.TheVariants.{Equals, DotDot}
-use Rattle.gms_grammar.specs.Grammar.{one, the, ◌·◌, ◌∣◌, opt, leaf, pair, left, right, node, yield}
+use Rattle.gms_grammar.specs.Grammar.{one, the, ◌·◌, ◌∣◌, opt, leaf, pair, node, yield}
+use Rattle.gms_grammar.specs.Alternatives.{head_assigned, head_defined}
 use Rattle.gms_grammar.specs.Reading.{read, stuck, leads, Reads, taken, refused, both, first_stuck, second_stuck, in_left_stuck, in_neither, takes_left}
 use Rattle.gms_grammar.specs.Terminals.{is}
 use Rattle.gms_grammar.specs.GamsGrammar.{Expression, Condition, Target, NamedStatement, AfterHead, AfterTarget, Sides, productions, token}
@@ -85,7 +86,7 @@ module _ {F : Type 0} (value : F → Number) {limit : ℕ} {reader : Reader} {at
       pub assigned_got : IsGot limit (IsAct value reader.source.now named_act) (Stays reader new w) (the NamedStatement) reader at new w act next
       assigned_got = elim (target_goes t.gives.reads) [
         | inl h ↦ got_by ((within_of t.gives h.leading).gives _ _ _ (gives_the AfterHead (gives_both c.gives (gives_left (led_pair r.gives.reads) r.gives)))) (stays_then t.leaves.stays (stays_then c.leaves.stays r.leaves))
-            (λ sense s. r.means sense s ∙ both_means sense s ∙ sym (h.acts reader.source.now sense (node (pair c.tree (left r.tree))))) (let x = t.further in let y = c.further in let z = r.further in omega arith)
+            (λ sense s. r.means sense s ∙ both_means sense s ∙ sym (h.acts reader.source.now sense (node (pair c.tree (head_assigned r.tree))))) (let x = t.further in let y = c.further in let z = r.further in omega arith)
         | inr a ↦ got_by ((within_of t.gives a.leading).gives _ _ _ (gives_the AfterTarget (gives_both c.gives r.gives))) (stays_then t.leaves.stays (stays_then c.leaves.stays r.leaves))
             (λ sense s. r.means sense s ∙ both_means sense s ∙ sym (a.acts reader.source.now sense (node (pair c.tree r.tree)))) (let x = t.further in let y = c.further in let z = r.further in omega arith)
       ]
@@ -120,7 +121,7 @@ module _ {F : Type 0} (value : F → Number) {limit : ℕ} {reader : Reader} {at
             let s1 = earlier c.gives t.leaves.stays.has.holds c.leaves.stays.has.holds s3 in
             d.means sense s
             ∙ ap₂ (λ (x : TargetTree Number) y. defines (record { at = x.at; name = x.name }) x.indices y (sides_in reader.source.now sense.names sense.labels d.tree)) (t.means sense s1) (c.means sense s3)
-            ∙ sym (h.acts reader.source.now sense (node (pair c.tree (right (pair (leaf (DotDot, dots)) d.tree))))))
+            ∙ sym (h.acts reader.source.now sense (node (pair c.tree (head_defined (pair (leaf (DotDot, dots)) d.tree))))))
             (let x = t.further in let y = c.further in let z = n.further in let u = d.further in omega arith)
       ]
 

@@ -6,7 +6,8 @@ use Rattle.gms_lex.specs.declared.token.Token.{Token}
 use Rattle.gms_lex.specs.TokenTexts.{token_text, unquoted}
 use Rattle.gms_grammar.specs.declared.terminal.Terminal.{Terminal}
 use Rattle.gms_grammar.specs.declared.terminal.Terminal.TheVariants as terminal
-use Rattle.gms_grammar.specs.Grammar.{DerivationTree, left, right, some, more}
+use Rattle.gms_grammar.specs.Grammar.{DerivationTree, some, more}
+use Rattle.gms_grammar.specs.Alternatives.{element_range, element_ranges, value_not_available, value_number}
 use Rattle.gms_grammar.specs.Terminals.{is}
 use Rattle.gms_set.specs.Ranges.{is_range, members}
 use Rattle.gq_extended.specs.declared.extended.Ext.{Ext}
@@ -81,8 +82,8 @@ module _ (source : List ℕ) (labels : List (List ℕ)) where
 
   -- the ranges of a position of an element: one, or those in parentheses
   abbrev pub ranges_in_part : DerivationTree (Terminal × Token) → List (DerivationTree (Terminal × Token))
-  ranges_in_part (left range) = range ∷ []
-  ranges_in_part (right list) = listed_in (λ range. range) (inside (between list))
+  ranges_in_part (element_range range) = range ∷ []
+  ranges_in_part (element_ranges list) = listed_in (λ range. range) (inside (between list))
   ranges_in_part _ = []
 
   -- the labels at a position of an element
@@ -98,8 +99,8 @@ module _ (source : List ℕ) (labels : List (List ℕ)) where
   value_of_token tree = if is terminal.Infinity (terminal_in tree) then PlusInf else Number (number_meant (token_text source (token_of tree)))
 
   abbrev pub parsed_value : DerivationTree (Terminal × Token) → Ext Rational
-  parsed_value (left tree) = Na
-  parsed_value (right tree) = signed_value (first_in tree) (value_of_token (second_in tree))
+  parsed_value (value_not_available tree) = Na
+  parsed_value (value_number tree) = signed_value (first_in tree) (value_of_token (second_in tree))
   parsed_value _ = Na
 
   -- the item of data of an element, with a value or without

@@ -5,7 +5,8 @@ use Rattle.std.specs.Prelude.{ℕ, Bool, true, false, if◌then◌else◌, List,
 use Rattle.gq_number.specs.Number.{Number}
 use Rattle.gms_lex.specs.declared.token.Token.{Token}
 use Rattle.gms_grammar.specs.declared.terminal.Terminal.{Terminal}
-use Rattle.gms_grammar.specs.Grammar.{DerivationTree, pair, left, right, some, node, yield}
+use Rattle.gms_grammar.specs.Grammar.{DerivationTree, pair, some, node, yield}
+use Rattle.gms_grammar.specs.Alternatives.{items_comma, items_line, model_all, model_named, position_set}
 use Rattle.gms_ast.specs.declared.word.Named.{Named}
 use Rattle.gms_ast.specs.declared.declaration.DeclKind.{DeclKind}
 use Rattle.gms_ast.specs.declared.declaration.DeclKind.TheVariants as kind
@@ -26,8 +27,8 @@ abbrev mutual
   items_in meaning _ = []
 
   pub further_items : {A T : Type 0} → (DerivationTree T → A) → DerivationTree T → List A
-  further_items meaning (some (left (pair _ tree))) = items_in meaning tree
-  further_items meaning (some (right (pair _ (some tree)))) = items_in meaning tree
+  further_items meaning (some (items_comma (pair _ tree))) = items_in meaning tree
+  further_items meaning (some (items_line (pair _ (some tree)))) = items_in meaning tree
   further_items meaning _ = []
 
 -- what `variable` declares after a type
@@ -43,7 +44,7 @@ module _ (source : List ℕ) (names labels : List (List ℕ)) where
 
   -- a position of a domain: `*`, or a set
   abbrev pub position_in : DerivationTree (Terminal × Token) → Option Named
-  position_in (node (right name)) = Some (named_in name)
+  position_in (node (position_set name)) = Some (named_in name)
   position_in _ = None
 
   -- a domain in parentheses
@@ -66,12 +67,12 @@ module _ (source : List ℕ) (names labels : List (List ℕ)) where
 
   -- a model has all equations
   abbrev pub has_all : DerivationTree (Terminal × Token) → Bool
-  has_all (left all) = true
+  has_all (model_all all) = true
   has_all _ = false
 
   -- the equations that are named
   abbrev pub equations_in : DerivationTree (Terminal × Token) → List Named
-  equations_in (right list) = listed_in named_in list
+  equations_in (model_named list) = listed_in named_in list
   equations_in _ = []
 
   -- a model that is declared: its name, and its equations between slashes

@@ -4,7 +4,8 @@ use Rattle.std.specs.Prelude.{ℕ, List, []}
 use Rattle.gq_number.specs.Number.{Number}
 use Rattle.gms_lex.specs.declared.token.Token.{Token}
 use Rattle.gms_grammar.specs.declared.terminal.Terminal.{Terminal}
-use Rattle.gms_grammar.specs.Grammar.{DerivationTree, pair, left, right, some, more, node}
+use Rattle.gms_grammar.specs.Grammar.{DerivationTree, pair, some, more, node}
+use Rattle.gms_grammar.specs.Alternatives.{keyword_set, keyword_parameter, keyword_scalar, keyword_table, keyword_variable, keyword_equation, keyword_model, keyword_alias, keyword_other, inner_assignment, inner_other, other_display, other_option, other_solve, other_abort, other_loop}
 use Rattle.gms_expressions.specs.ExpressionTrees.{place_in, control}
 use Rattle.gms_ast.specs.StatementTrees.{Act, loops, displays, Statements, no_statement, statement, followed_by}
 use Rattle.gms_parse.specs.Declarations.{variable_act, equation_act, model_act, set_act, parameter_act, scalar_act, table_act}
@@ -35,36 +36,30 @@ module _ (source : List ℕ) (names labels : List (List ℕ)) where
 
     -- a statement in a loop: an assignment, or another
     pub inner_act : DerivationTree (Terminal × Token) → Act Number
-    inner_act (node (left tree)) = assignment_act source names labels tree
-    inner_act (node (right tree)) = display_or_other tree
+    inner_act (node (inner_assignment tree)) = assignment_act source names labels tree
+    inner_act (node (inner_other tree)) = display_or_other tree
     inner_act _ = displays []
 
     -- a display, options, a solve, an abort, or a loop
     pub display_or_other : DerivationTree (Terminal × Token) → Act Number
-    display_or_other (left tree) = display_act source names labels tree
-    display_or_other (right (left tree)) = option_act source names labels tree
-    display_or_other (right (right (left tree))) = solve_act source names labels tree
-    display_or_other (right (right (right (left tree)))) = abort_act source names labels tree
-    display_or_other (right (right (right (right tree)))) = loop_act tree
+    display_or_other (other_display tree) = display_act source names labels tree
+    display_or_other (other_option tree) = option_act source names labels tree
+    display_or_other (other_solve tree) = solve_act source names labels tree
+    display_or_other (other_abort tree) = abort_act source names labels tree
+    display_or_other (other_loop tree) = loop_act tree
     display_or_other _ = displays []
-
-  -- one of two acts, by the alternative of the derivation
-  abbrev pub either : (DerivationTree (Terminal × Token) → Act Number) → (DerivationTree (Terminal × Token) → Act Number) → DerivationTree (Terminal × Token) → Act Number
-  either one other (left tree) = one tree
-  either one other (right tree) = other tree
-  either one other _ = displays []
 
   -- a statement that begins with a keyword
   abbrev pub keyword_act : DerivationTree (Terminal × Token) → Act Number
-  keyword_act (node tree) =
-      either (set_act source names labels) (
-      either (parameter_act source names labels) (
-      either (scalar_act source names labels) (
-      either (table_act source names labels) (
-      either (variable_act source names labels) (
-      either (equation_act source names labels) (
-      either (model_act source names labels) (
-      either (alias_act source names labels) display_or_other))))))) tree
+  keyword_act (node (keyword_set tree)) = set_act source names labels tree
+  keyword_act (node (keyword_parameter tree)) = parameter_act source names labels tree
+  keyword_act (node (keyword_scalar tree)) = scalar_act source names labels tree
+  keyword_act (node (keyword_table tree)) = table_act source names labels tree
+  keyword_act (node (keyword_variable tree)) = variable_act source names labels tree
+  keyword_act (node (keyword_equation tree)) = equation_act source names labels tree
+  keyword_act (node (keyword_model tree)) = model_act source names labels tree
+  keyword_act (node (keyword_alias tree)) = alias_act source names labels tree
+  keyword_act (node (keyword_other tree)) = display_or_other tree
   keyword_act _ = displays []
 
   -- statements that begin with keywords, in order

@@ -7,7 +7,8 @@ use Rattle.gms_grammar.specs.declared.kind.Kind.{Kind}
 use Rattle.gms_grammar.specs.declared.kind.Kind.TheVariants as token_kind
 use Rattle.gms_lex.specs.declared.token.Token.{Token}
 use Rattle.gms_grammar.specs.declared.terminal.Terminal.{Terminal}
-use Rattle.gms_grammar.specs.Grammar.{DerivationTree, pair, left, right, none, some, node}
+use Rattle.gms_grammar.specs.Grammar.{DerivationTree, pair, none, some, node}
+use Rattle.gms_grammar.specs.Alternatives.{name_suffixed, name_indexed, name_alone, head_label, head_set, head_lag, head_lagless, head_comma, head_closed, head_assigned, head_defined, shown_text, shown_symbol, setting_number, setting_word, solve_using, solve_direction}
 use Rattle.gms_ast.specs.declared.word.Word.{Word}
 use Rattle.gms_ast.specs.declared.expression.Suffix.{Suffix}
 use Rattle.gms_ast.specs.declared.expression.Suffix.TheVariants as suffix
@@ -83,8 +84,8 @@ module _ (source : List ℕ) (names labels : List (List ℕ)) where
   -- what follows a target without suffix and lags: `=` makes it an assignment, and `..` a
   -- definition
   abbrev pub after_head : Target Number → DerivationTree (Terminal × Token) → Act Number
-  after_head target (node (pair condition (left tree))) = assigned target (condition_in condition) (second_in tree)
-  after_head target (node (pair condition (right (pair _ sides)))) =
+  after_head target (node (pair condition (head_assigned tree))) = assigned target (condition_in condition) (second_in tree)
+  after_head target (node (pair condition (head_defined (pair _ sides)))) =
       defines (record { at = target.at; name = target.name }) target.indices (condition_in condition) (sides_in sides)
   after_head target _ = displays []
 
@@ -92,28 +93,28 @@ module _ (source : List ℕ) (names labels : List (List ℕ)) where
     -- the indices of a head, which the grammar nests as they come; from the first lag on they are a
     -- plain list
     pub head_indices : DerivationTree (Terminal × Token) → trees.Indices Number
-    head_indices (node (left (pair text tree))) = trees.label (label_in source names labels text) (following_indices tree)
-    head_indices (node (right (pair name (node (left (pair amount (node (pair others _)))))))) =
+    head_indices (node (head_label (pair text tree))) = trees.label (label_in source names labels text) (following_indices tree)
+    head_indices (node (head_set (pair name (node (head_lag (pair amount (node (pair others _)))))))) =
         lag source names labels (name_in source names labels name) amount (more_indices source names labels others)
-    head_indices (node (right (pair name (node (right tree))))) = trees.set (name_in source names labels name) (following_indices tree)
+    head_indices (node (head_set (pair name (node (head_lagless tree))))) = trees.set (name_in source names labels name) (following_indices tree)
     head_indices _ = trees.no_index
 
     following_indices : DerivationTree (Terminal × Token) → trees.Indices Number
-    following_indices (node (left (pair _ tree))) = head_indices tree
+    following_indices (node (head_comma (pair _ tree))) = head_indices tree
     following_indices _ = trees.no_index
 
   abbrev mutual
     -- what follows the closing parenthesis of a head: with a lag among the indices it is an
     -- assignment
     pub act_of_head : Target Number → DerivationTree (Terminal × Token) → Act Number
-    act_of_head target (node (left (pair _ tree))) = act_after target tree
-    act_of_head target (node (right (pair _ (node (left (pair _ (node (pair _ (pair _ tree))))))))) = after_target target tree
-    act_of_head target (node (right (pair _ (node (right tree))))) = act_after target tree
+    act_of_head target (node (head_label (pair _ tree))) = act_after target tree
+    act_of_head target (node (head_set (pair _ (node (head_lag (pair _ (node (pair _ (pair _ tree))))))))) = after_target target tree
+    act_of_head target (node (head_set (pair _ (node (head_lagless tree))))) = act_after target tree
     act_of_head target _ = displays []
 
     act_after : Target Number → DerivationTree (Terminal × Token) → Act Number
-    act_after target (node (left (pair _ tree))) = act_of_head target tree
-    act_after target (node (right (pair _ tree))) = after_head target tree
+    act_after target (node (head_comma (pair _ tree))) = act_of_head target tree
+    act_after target (node (head_closed (pair _ tree))) = after_head target tree
     act_after target _ = displays []
 
   -- the target of this name, with a suffix and indices
@@ -122,10 +123,10 @@ module _ (source : List ℕ) (names labels : List (List ℕ)) where
 
   -- an assignment or a definition: the name is followed by a suffix, indices, or neither
   abbrev pub named_act : DerivationTree (Terminal × Token) → Act Number
-  named_act (node (pair name (node (left (pair dotted (pair indices tree)))))) =
+  named_act (node (pair name (node (name_suffixed (pair dotted (pair indices tree)))))) =
       after_target (target_at name (suffix_in source names labels (some dotted)) (optional_indices source names labels indices)) tree
-  named_act (node (pair name (node (right (left (pair _ tree)))))) = act_of_head (target_at name suffix.None (head_indices tree)) tree
-  named_act (node (pair name (node (right (right tree))))) = after_head (target_at name suffix.None trees.no_index) tree
+  named_act (node (pair name (node (name_indexed (pair _ tree))))) = act_of_head (target_at name suffix.None (head_indices tree)) tree
+  named_act (node (pair name (node (name_alone tree)))) = after_head (target_at name suffix.None trees.no_index) tree
   named_act _ = displays []
 
   -- the target of an assignment in a loop
@@ -149,8 +150,8 @@ module _ (source : List ℕ) (names labels : List (List ℕ)) where
 
   -- what is shown: a text, or a symbol perhaps with a suffix
   abbrev pub parsed_shown : DerivationTree (Terminal × Token) → Show
-  parsed_shown (node (left text)) = show.Text (text_word text)
-  parsed_shown (node (right (pair name dotted))) = show.Symbol (named_in source names labels name) (suffix_in source names labels dotted)
+  parsed_shown (node (shown_text text)) = show.Text (text_word text)
+  parsed_shown (node (shown_symbol (pair name dotted))) = show.Symbol (named_in source names labels name) (suffix_in source names labels dotted)
   parsed_shown _ = show.Text (text_word none)
 
   -- all that is shown
@@ -170,8 +171,8 @@ module _ (source : List ℕ) (names labels : List (List ℕ)) where
 
   -- what an option is set to: a number, or a word
   abbrev pub setting_value : DerivationTree (Terminal × Token) → Setting Number
-  setting_value (left number) = setting.Number (token_of number).at (number_meant (bytes_in number))
-  setting_value (right word) = setting.Name (word_in word)
+  setting_value (setting_number number) = setting.Number (token_of number).at (number_meant (bytes_in number))
+  setting_value (setting_word word) = setting.Name (word_in word)
   setting_value _ = setting.Name (word_in none)
 
   -- an option's word, and what it is set to
@@ -187,8 +188,8 @@ module _ (source : List ℕ) (names labels : List (List ℕ)) where
   -- a solve of a model: `using` and its word come before the direction and the objective, or after
   -- them
   abbrev pub solve_act : DerivationTree (Terminal × Token) → Act Number
-  solve_act (node (pair _ (pair model (left (pair _ (pair method objective)))))) =
+  solve_act (node (pair _ (pair model (solve_using (pair _ (pair method objective)))))) =
       solves (named_in source names labels model) (word_in method) (named_in source names labels (second_in objective)) (is_maximizing (bytes_in (first_in objective)))
-  solve_act (node (pair _ (pair model (right (pair direction (pair name method)))))) =
+  solve_act (node (pair _ (pair model (solve_direction (pair direction (pair name method)))))) =
       solves (named_in source names labels model) (word_in (second_in method)) (named_in source names labels name) (is_maximizing (bytes_in direction))
   solve_act _ = displays []

@@ -7,7 +7,8 @@ use Rattle.gms_ast.specs.declared.declaration.Item.{Item}
 use Rattle.gms_lex.specs.declared.token.Token.{Token}
 use Rattle.gms_lex.specs.TokenTexts.{token_text, unquoted}
 use Rattle.gms_grammar.specs.declared.terminal.Terminal.{Terminal}
-use Rattle.gms_grammar.specs.Grammar.{pair, left, right, some, more, node}
+use Rattle.gms_grammar.specs.Grammar.{pair, some, more, node}
+use Rattle.gms_grammar.specs.Alternatives.{items_comma, items_line}
 use Rattle.gms_set.specs.Ranges.{is_range, members}
 use Rattle.gms_table.specs.TableEntries.{TablePart, name, cell, met}
 use Rattle.gms_table.specs.WordLabels.{labels_of_word}
@@ -42,8 +43,8 @@ mutual
   items-has P meaning each tree = tt
 
   further-has : {A : Type 0} (P : A → Type 0) (meaning : Derivation → A) → ((tree : Derivation) → P (meaning tree)) → (tree : Derivation) → EachHas P (further_items meaning tree)
-  further-has P meaning each (some (left (pair comma tree))) = items-has P meaning each tree
-  further-has P meaning each (some (right (pair line (some tree)))) = items-has P meaning each tree
+  further-has P meaning each (some (items_comma (pair comma tree))) = items-has P meaning each tree
+  further-has P meaning each (some (items_line (pair line (some tree)))) = items-has P meaning each tree
   further-has P meaning each tree = tt
 
 -- the labels at the positions of an item pass a test, and those of a name's data

@@ -9,7 +9,8 @@ use Rattle.gms_lex.specs.declared.token.Token.{Token}
 use Rattle.gms_lex.specs.TokenTexts.{token_text, unquoted}
 use Rattle.gms_grammar.specs.declared.terminal.Terminal.{Terminal}
 use Rattle.gms_grammar.specs.declared.terminal.Terminal.TheVariants as terminal
-use Rattle.gms_grammar.specs.Grammar.{DerivationTree, pair, left, right, none, some, more, node}
+use Rattle.gms_grammar.specs.Grammar.{DerivationTree, pair, none, some, more, node}
+use Rattle.gms_grammar.specs.Alternatives.{primary_constant, primary_target, primary_call, primary_fold, primary_expression, call_function, call_set, index_label, index_set, amount_number, amount_scalar, amount_expression}
 use Rattle.gms_expressions.specs.Valuations.{number_meant}
 use Rattle.gms_expressions.specs.ExpressionTrees.{arguments, bracketed_arguments, bracketed_expression, call_of, choices, comparison_tree, condition, conjunction, conjuncts, constant_of, control, exponents, expression, factors, fold_of, function_call, guarded_of, guards, index, indices, is_minus, is_word, label_in, lag, lag_amount, more_arguments, more_indices, negated_by, name_in, negated_primary, negation, optional_indices, or_0, or_alone, place_in, power_of, primary, product_tree, relations, set_call, signed_guarded, signed_power, sum_tree, target, terminal_in, terms, text_in, token_of, with_sign}
 use Rattle.gms_run_laws.specs.Names.{Each}
@@ -172,12 +173,12 @@ module _ (source : List ℕ) (names labels : List (List ℕ)) (is_own : ℕ → 
     negated_primary-own tree = tt
 
     primary-own : (tree : Derivation) → Own (primary source names labels tree)
-    primary-own (node (left tree)) =
+    primary-own (node (primary_constant tree)) =
         constant-own (terminal_in tree) (text_in source names labels tree) (number_meant (text_in source names labels tree))
-    primary-own (node (right (left tree))) = target-own tree
-    primary-own (node (right (right (left tree)))) = call_of-own tree
-    primary-own (node (right (right (right (left tree))))) = fold-own tree
-    primary-own (node (right (right (right (right tree))))) = bracketed-own tree
+    primary-own (node (primary_target tree)) = target-own tree
+    primary-own (node (primary_call tree)) = call_of-own tree
+    primary-own (node (primary_fold tree)) = fold-own tree
+    primary-own (node (primary_expression tree)) = bracketed-own tree
     primary-own tree = tt
 
     bracketed-own : (tree : Derivation) → Own (bracketed_expression source names labels tree)
@@ -185,8 +186,8 @@ module _ (source : List ℕ) (names labels : List (List ℕ)) (is_own : ℕ → 
     bracketed-own tree = tt
 
     call_of-own : (tree : Derivation) → Own (call_of source names labels tree)
-    call_of-own (node (left tree)) = function-own tree
-    call_of-own (node (right tree)) = call-own tree
+    call_of-own (node (call_function tree)) = function-own tree
+    call_of-own (node (call_set tree)) = call-own tree
     call_of-own tree = tt
 
     function-own : (tree : Derivation) → Own (function_call source names labels tree)
@@ -229,9 +230,9 @@ module _ (source : List ℕ) (names labels : List (List ℕ)) (is_own : ℕ → 
     more_indices-own tree = tt
 
     index-own : (tree : Derivation) (rest : trees.Indices Number) → OwnIndices rest → OwnIndices (index source names labels tree rest)
-    index-own (node (left text)) rest all = (label-own text, all)
-    index-own (node (right (pair name none))) rest all = all
-    index-own (node (right (pair name (some tree)))) rest all = lag-own tree (name_in source names labels name) rest all
+    index-own (node (index_label text)) rest all = (label-own text, all)
+    index-own (node (index_set (pair name none))) rest all = all
+    index-own (node (index_set (pair name (some tree)))) rest all = lag-own tree (name_in source names labels name) rest all
     index-own tree rest all = all
 
     pub lag-own : (tree : Derivation) (name : ℕ) (rest : trees.Indices Number) → OwnIndices rest → OwnIndices (lag source names labels name tree rest)
@@ -240,9 +241,9 @@ module _ (source : List ℕ) (names labels : List (List ℕ)) (is_own : ℕ → 
     lag-own tree name rest all = all
 
     amount-own : (tree : Derivation) → Own (lag_amount source names labels tree)
-    amount-own (node (left tree)) = tt
-    amount-own (node (right (left tree))) = tt
-    amount-own (node (right (right tree))) = bracketed-own tree
+    amount-own (node (amount_number tree)) = tt
+    amount-own (node (amount_scalar tree)) = tt
+    amount-own (node (amount_expression tree)) = bracketed-own tree
     amount-own tree = tt
 
     pub control-own : (tree : Derivation) → Each is_own (control_labels (control source names labels tree))

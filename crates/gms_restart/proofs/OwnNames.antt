@@ -11,7 +11,8 @@ use Rattle.gms_ast.specs.declared.word.Word.{Word}
 use Rattle.gms_ast.specs.StatementTrees.{Act, displays, sets_options, solves, aborts, Target, Statements, no_statement, statement, followed_by}
 use Rattle.gms_ast.specs.Trees as trees
 use Rattle.gms_grammar.specs.declared.terminal.Terminal.{Terminal}
-use Rattle.gms_grammar.specs.Grammar.{DerivationTree, pair, left, right, none, some, more, node}
+use Rattle.gms_grammar.specs.Grammar.{DerivationTree, pair, none, some, more, node}
+use Rattle.gms_grammar.specs.Alternatives.{solve_using, solve_direction, items_comma, items_line, head_assigned, head_defined, name_suffixed, name_indexed, name_alone, other_display, other_option, other_solve, other_abort, other_loop, keyword_set, keyword_parameter, keyword_scalar, keyword_table, keyword_variable, keyword_equation, keyword_model, keyword_alias, keyword_other, head_label, head_set, head_lag, head_lagless, head_comma, head_closed}
 use Rattle.gms_expressions.specs.ExpressionTrees.{first_in, second_in, inside, name_in}
 use Rattle.gms_parse.specs.Declarations.{items_in, further_items, plain_in, model_in, variable_act, equation_act, model_act, set_in, parameter_in, scalar_item_in, set_act, parameter_act, scalar_act, table_act}
 use Rattle.gms_parse.specs.Statements.{after_target, after_head, act_of_head, named_act, alias_act, display_act, option_act, solve_act, abort_act}
@@ -44,8 +45,8 @@ module _ (source : List ℕ) (names labels : List (List ℕ)) (Q : Act Number �
   option-has _ = quiet.shown []
 
   pub solve-has : (tree : Derivation) → Q (solve_act source names labels tree)
-  solve-has (node (pair word (pair model (left (pair using (pair method objective)))))) = quiet.solved _ _ _ _
-  solve-has (node (pair word (pair model (right (pair direction (pair name method)))))) = quiet.solved _ _ _ _
+  solve-has (node (pair word (pair model (solve_using (pair using (pair method objective)))))) = quiet.solved _ _ _ _
+  solve-has (node (pair word (pair model (solve_direction (pair direction (pair name method)))))) = quiet.solved _ _ _ _
   solve-has _ = quiet.shown []
 
   pub abort-has : (tree : Derivation) → Q (abort_act source names labels tree)
@@ -65,8 +66,8 @@ module _ (source : List ℕ) (names labels : List (List ℕ)) (P : ℕ → Type 
     items-own meaning name own _ = tt
 
     further-own : {A : Type 0} (meaning : Derivation → A) (name : A → ℕ) → ((tree : Derivation) → P (name (meaning tree))) → (tree : Derivation) → HoldsOf P (map name (further_items meaning tree))
-    further-own meaning name own (some (left (pair sign tree))) = items-own meaning name own tree
-    further-own meaning name own (some (right (pair sign (some tree)))) = items-own meaning name own tree
+    further-own meaning name own (some (items_comma (pair sign tree))) = items-own meaning name own tree
+    further-own meaning name own (some (items_line (pair sign (some tree)))) = items-own meaning name own tree
     further-own meaning name own _ = tt
 
   decls-own : (meaning : Derivation → Decl Number) → ((tree : Derivation) → P (meaning tree).named.name) → (tree : Derivation) → HoldsOf P (item_names (items_in meaning tree))
@@ -104,26 +105,26 @@ module _ (source : List ℕ) (names labels : List (List ℕ)) (P : ℕ → Type 
   target-own target _ = tt
 
   head-own : (target : Target Number) (tree : Derivation) → Own (after_head source names labels target tree)
-  head-own target (node (pair condition (left tree))) = tt
-  head-own target (node (pair condition (right (pair sign sides)))) = tt
+  head-own target (node (pair condition (head_assigned tree))) = tt
+  head-own target (node (pair condition (head_defined (pair sign sides)))) = tt
   head-own target _ = tt
 
   mutual
     of_head-own : (target : Target Number) (tree : Derivation) → Own (act_of_head source names labels target tree)
-    of_head-own target (node (left (pair text tree))) = following-own target tree
-    of_head-own target (node (right (pair name (node (left (pair amount (node (pair others (pair closing tree))))))))) = target-own target tree
-    of_head-own target (node (right (pair name (node (right tree))))) = following-own target tree
+    of_head-own target (node (head_label (pair text tree))) = following-own target tree
+    of_head-own target (node (head_set (pair name (node (head_lag (pair amount (node (pair others (pair closing tree))))))))) = target-own target tree
+    of_head-own target (node (head_set (pair name (node (head_lagless tree))))) = following-own target tree
     of_head-own target _ = tt
 
-    following-own : (target : Target Number) (tree : Derivation) → Own (act_of_head source names labels target (node (left (pair none tree))))
-    following-own target (node (left (pair comma tree))) = of_head-own target tree
-    following-own target (node (right (pair closing tree))) = head-own target tree
+    following-own : (target : Target Number) (tree : Derivation) → Own (act_of_head source names labels target (node (head_label (pair none tree))))
+    following-own target (node (head_comma (pair comma tree))) = of_head-own target tree
+    following-own target (node (head_closed (pair closing tree))) = head-own target tree
     following-own target _ = tt
 
   named-own : (tree : Derivation) → Own (named_act source names labels tree)
-  named-own (node (pair name (node (left (pair dotted (pair indices tree)))))) = target-own _ tree
-  named-own (node (pair name (node (right (left (pair opening tree)))))) = of_head-own _ tree
-  named-own (node (pair name (node (right (right tree))))) = head-own _ tree
+  named-own (node (pair name (node (name_suffixed (pair dotted (pair indices tree)))))) = target-own _ tree
+  named-own (node (pair name (node (name_indexed (pair opening tree))))) = of_head-own _ tree
+  named-own (node (pair name (node (name_alone tree)))) = head-own _ tree
   named-own _ = tt
 
   quiet : QuietHave Own
@@ -138,25 +139,25 @@ module _ (source : List ℕ) (names labels : List (List ℕ)) (P : ℕ → Type 
   loop-own _ = tt
 
   other-own : (tree : Derivation) → Own (display_or_other source names labels tree)
-  other-own (left tree) = display-has source names labels Own quiet tree
-  other-own (right (left tree)) = option-has source names labels Own quiet tree
-  other-own (right (right (left tree))) = solve-has source names labels Own quiet tree
-  other-own (right (right (right (left tree)))) = abort-has source names labels Own quiet tree
-  other-own (right (right (right (right tree)))) = loop-own tree
+  other-own (other_display tree) = display-has source names labels Own quiet tree
+  other-own (other_option tree) = option-has source names labels Own quiet tree
+  other-own (other_solve tree) = solve-has source names labels Own quiet tree
+  other-own (other_abort tree) = abort-has source names labels Own quiet tree
+  other-own (other_loop tree) = loop-own tree
   other-own _ = tt
 
   -- ---- statements
 
   keyword-own : (tree : Derivation) → Own (keyword_act source names labels tree)
-  keyword-own (node (left tree)) = set-own tree
-  keyword-own (node (right (left tree))) = parameter-own tree
-  keyword-own (node (right (right (left tree)))) = scalar-own tree
-  keyword-own (node (right (right (right (left tree))))) = table-own tree
-  keyword-own (node (right (right (right (right (left tree)))))) = variable-own tree
-  keyword-own (node (right (right (right (right (right (left tree))))))) = equation-own tree
-  keyword-own (node (right (right (right (right (right (right (left tree)))))))) = model-own tree
-  keyword-own (node (right (right (right (right (right (right (right (left tree))))))))) = alias-own tree
-  keyword-own (node (right (right (right (right (right (right (right (right tree))))))))) = other-own tree
+  keyword-own (node (keyword_set tree)) = set-own tree
+  keyword-own (node (keyword_parameter tree)) = parameter-own tree
+  keyword-own (node (keyword_scalar tree)) = scalar-own tree
+  keyword-own (node (keyword_table tree)) = table-own tree
+  keyword-own (node (keyword_variable tree)) = variable-own tree
+  keyword-own (node (keyword_equation tree)) = equation-own tree
+  keyword-own (node (keyword_model tree)) = model-own tree
+  keyword-own (node (keyword_alias tree)) = alias-own tree
+  keyword-own (node (keyword_other tree)) = other-own tree
   keyword-own _ = tt
 
   abbrev OwnThere : Statements Number → Type 0

@@ -20,7 +20,8 @@ use Rattle.gms_ast.specs.StatementTrees.{Act, declares, assigns, defines, loops,
 use Rattle.gms_ast.specs.StatementView.{declared_in, statements_in_order, item_in, shown_tree, statement_view, statements_view}
 use Rattle.gms_ast.specs.TreeView.{control_tree, index_tree, indices_of, tree_of}
 use Rattle.gms_ast.specs.Trees as trees
-use Rattle.gms_grammar.specs.Grammar.{yield, pair, left, right, some, more, node}
+use Rattle.gms_grammar.specs.Grammar.{yield, pair, some, more, node}
+use Rattle.gms_grammar.specs.Alternatives.{head_assigned, head_defined, name_suffixed, name_indexed, name_alone, inner_assignment, inner_other, other_display, other_option, other_solve, other_abort, other_loop, keyword_set, keyword_parameter, keyword_scalar, keyword_table, keyword_variable, keyword_equation, keyword_model, keyword_alias, keyword_other, head_label, head_set, head_lag, head_lagless, head_comma, head_closed, solve_using, solve_direction}
 use Rattle.gms_expressions.specs.ExpressionTrees.{control, expression, first_in, inside, more_indices, name_in, optional_indices, second_in, suffix_in}
 use Rattle.gms_parse.specs.Declarations.{equation_act, model_act, parameter_act, scalar_act, set_act, table_act, variable_act}
 use Rattle.gms_parse.specs.Programs.{after_semicolon, controlled_act, display_or_other, inner_act, keyword_act, keyword_statements, loop_act, loop_body, named_first, segment, segments, statements_of}
@@ -100,32 +101,32 @@ module _ (source : List ℕ) (names labels : List (List ℕ)) (own : ℕ → Boo
   target-own target all tree = tt
 
   head-own : (target : Target Number) → OwnIndices source names labels own has target.indices → (tree : Derivation) → Written (after_head source names labels target tree)
-  head-own target all (node (pair condition (left tree))) = assigned-own target all condition (second_in tree)
-  head-own target all (node (pair condition (right (pair dots sides)))) = defined-own target.indices all condition sides
+  head-own target all (node (pair condition (head_assigned tree))) = assigned-own target all condition (second_in tree)
+  head-own target all (node (pair condition (head_defined (pair dots sides)))) = defined-own target.indices all condition sides
   head-own target all tree = tt
 
   prefix-own : (tree : Derivation) → OwnIndices source names labels own has (head_indices source names labels tree)
-  prefix-own (node (left (pair text (node (left (pair comma tree)))))) = (label-own source names labels own has text, prefix-own tree)
-  prefix-own (node (left (pair text tree))) = (label-own source names labels own has text, tt)
-  prefix-own (node (right (pair name (node (left (pair amount (node (pair others mark)))))))) =
+  prefix-own (node (head_label (pair text (node (head_comma (pair comma tree)))))) = (label-own source names labels own has text, prefix-own tree)
+  prefix-own (node (head_label (pair text tree))) = (label-own source names labels own has text, tt)
+  prefix-own (node (head_set (pair name (node (head_lag (pair amount (node (pair others mark)))))))) =
       lag-own source names labels own has amount (name_in source names labels name) (more_indices source names labels others) (more_indices-own source names labels own has others)
-  prefix-own (node (right (pair name (node (right (node (left (pair comma tree)))))))) = prefix-own tree
+  prefix-own (node (head_set (pair name (node (head_lagless (node (head_comma (pair comma tree)))))))) = prefix-own tree
   prefix-own tree = tt
 
   act-own : (tree : Derivation) (target : Target Number) → OwnIndices source names labels own has target.indices → Written (act_of_head source names labels target tree)
-  act-own (node (left (pair mark (node (left (pair comma tree)))))) target all = act-own tree target all
-  act-own (node (left (pair mark (node (right (pair close_mark tree)))))) target all = head-own target all tree
-  act-own (node (right (pair name (node (left (pair amount (node (pair others (pair mark tree))))))))) target all = target-own target all tree
-  act-own (node (right (pair name (node (right (node (left (pair comma tree)))))))) target all = act-own tree target all
-  act-own (node (right (pair name (node (right (node (right (pair close_mark tree)))))))) target all = head-own target all tree
+  act-own (node (head_label (pair mark (node (head_comma (pair comma tree)))))) target all = act-own tree target all
+  act-own (node (head_label (pair mark (node (head_closed (pair close_mark tree)))))) target all = head-own target all tree
+  act-own (node (head_set (pair name (node (head_lag (pair amount (node (pair others (pair mark tree))))))))) target all = target-own target all tree
+  act-own (node (head_set (pair name (node (head_lagless (node (head_comma (pair comma tree)))))))) target all = act-own tree target all
+  act-own (node (head_set (pair name (node (head_lagless (node (head_closed (pair close_mark tree)))))))) target all = head-own target all tree
   act-own tree target all = tt
 
   named-own : (tree : Derivation) → Written (named_act source names labels tree)
-  named-own (node (pair name (node (left (pair dotted (pair indices tree)))))) =
+  named-own (node (pair name (node (name_suffixed (pair dotted (pair indices tree)))))) =
       target-own (target_at source names labels name (suffix_in source names labels (some dotted)) (optional_indices source names labels indices)) (optional-own source names labels own has indices) tree
-  named-own (node (pair name (node (right (left (pair mark tree)))))) =
+  named-own (node (pair name (node (name_indexed (pair mark tree))))) =
       act-own tree (target_at source names labels name suffix.None (head_indices source names labels tree)) (prefix-own tree)
-  named-own (node (pair name (node (right (right tree))))) = head-own (target_at source names labels name suffix.None trees.no_index) tt tree
+  named-own (node (pair name (node (name_alone tree)))) = head-own (target_at source names labels name suffix.None trees.no_index) tt tree
   named-own tree = tt
 
   put-own : (tree : Derivation) → OwnIndices source names labels own has (target_in source names labels tree).indices
@@ -161,16 +162,16 @@ module _ (source : List ℕ) (names labels : List (List ℕ)) (own : ℕ → Boo
     following-own tree = tt
 
     inner-own : (tree : Derivation) → Written (inner_act source names labels tree)
-    inner-own (node (left tree)) = assignment-own tree
-    inner-own (node (right tree)) = other-own tree
+    inner-own (node (inner_assignment tree)) = assignment-own tree
+    inner-own (node (inner_other tree)) = other-own tree
     inner-own tree = tt
 
     other-own : (tree : Derivation) → Written (display_or_other source names labels tree)
-    other-own (left tree) = display-has source names labels Written quiet tree
-    other-own (right (left tree)) = option-has source names labels Written quiet tree
-    other-own (right (right (left tree))) = solve-has source names labels Written quiet tree
-    other-own (right (right (right (left tree)))) = abort-has source names labels Written quiet tree
-    other-own (right (right (right (right tree)))) = loop-own tree
+    other-own (other_display tree) = display-has source names labels Written quiet tree
+    other-own (other_option tree) = option-has source names labels Written quiet tree
+    other-own (other_solve tree) = solve-has source names labels Written quiet tree
+    other-own (other_abort tree) = abort-has source names labels Written quiet tree
+    other-own (other_loop tree) = loop-own tree
     other-own tree = tt
 
   -- ---- and no data
@@ -183,33 +184,33 @@ module _ (source : List ℕ) (names labels : List (List ℕ)) (own : ℕ → Boo
   target-bare target tree = tt
 
   head-bare : (target : Target Number) (tree : Derivation) → Bare (after_head source names labels target tree)
-  head-bare target (node (pair condition (left tree))) = tt
-  head-bare target (node (pair condition (right (pair dots sides)))) = tt
+  head-bare target (node (pair condition (head_assigned tree))) = tt
+  head-bare target (node (pair condition (head_defined (pair dots sides)))) = tt
   head-bare target tree = tt
 
   act-bare : (tree : Derivation) (target : Target Number) → Bare (act_of_head source names labels target tree)
-  act-bare (node (left (pair mark (node (left (pair comma tree)))))) target = act-bare tree target
-  act-bare (node (left (pair mark (node (right (pair close_mark tree)))))) target = head-bare target tree
-  act-bare (node (right (pair name (node (left (pair amount (node (pair others (pair mark tree))))))))) target = target-bare target tree
-  act-bare (node (right (pair name (node (right (node (left (pair comma tree)))))))) target = act-bare tree target
-  act-bare (node (right (pair name (node (right (node (right (pair close_mark tree)))))))) target = head-bare target tree
+  act-bare (node (head_label (pair mark (node (head_comma (pair comma tree)))))) target = act-bare tree target
+  act-bare (node (head_label (pair mark (node (head_closed (pair close_mark tree)))))) target = head-bare target tree
+  act-bare (node (head_set (pair name (node (head_lag (pair amount (node (pair others (pair mark tree))))))))) target = target-bare target tree
+  act-bare (node (head_set (pair name (node (head_lagless (node (head_comma (pair comma tree)))))))) target = act-bare tree target
+  act-bare (node (head_set (pair name (node (head_lagless (node (head_closed (pair close_mark tree)))))))) target = head-bare target tree
   act-bare tree target = tt
 
   named-bare : (tree : Derivation) → Bare (named_act source names labels tree)
-  named-bare (node (pair name (node (left (pair dotted (pair indices tree)))))) =
+  named-bare (node (pair name (node (name_suffixed (pair dotted (pair indices tree)))))) =
       target-bare (target_at source names labels name (suffix_in source names labels (some dotted)) (optional_indices source names labels indices)) tree
-  named-bare (node (pair name (node (right (left (pair mark tree)))))) =
+  named-bare (node (pair name (node (name_indexed (pair mark tree))))) =
       act-bare tree (target_at source names labels name suffix.None (head_indices source names labels tree))
-  named-bare (node (pair name (node (right (right tree))))) = head-bare (target_at source names labels name suffix.None trees.no_index) tree
+  named-bare (node (pair name (node (name_alone tree)))) = head-bare (target_at source names labels name suffix.None trees.no_index) tree
   named-bare tree = tt
 
   other-bare : (tree : Derivation) → Bare (display_or_other source names labels tree)
-  other-bare (left (node (pair word list))) = tt
-  other-bare (right (left (node (pair word list)))) = tt
-  other-bare (right (right (left (node (pair word (pair model (left (pair using (pair method objective))))))))) = tt
-  other-bare (right (right (left (node (pair word (pair model (right (pair direction (pair name method))))))))) = tt
-  other-bare (right (right (right (left (node (pair word (pair condition list))))))) = tt
-  other-bare (right (right (right (right (node (pair word (pair mark (pair (pair sets (pair comma body)) close_mark)))))))) = tt
+  other-bare (other_display (node (pair word list))) = tt
+  other-bare (other_option (node (pair word list))) = tt
+  other-bare (other_solve (node (pair word (pair model (solve_using (pair using (pair method objective))))))) = tt
+  other-bare (other_solve (node (pair word (pair model (solve_direction (pair direction (pair name method))))))) = tt
+  other-bare (other_abort (node (pair word (pair condition list)))) = tt
+  other-bare (other_loop (node (pair word (pair mark (pair (pair sets (pair comma body)) close_mark))))) = tt
   other-bare tree = tt
 
   -- ---- statements
@@ -246,15 +247,15 @@ module _ (source : List ℕ) (names labels : List (List ℕ)) (own : ℕ → Boo
   other-pass tree = (other-own tree, other-bare tree)
 
   keyword-pass : (tree : Derivation) → Passes (keyword_act source names labels tree)
-  keyword-pass (node (left tree)) = set-pass tree
-  keyword-pass (node (right (left tree))) = parameter-pass tree
-  keyword-pass (node (right (right (left tree)))) = scalar-pass tree
-  keyword-pass (node (right (right (right (left tree))))) = table-pass tree
-  keyword-pass (node (right (right (right (right (left tree)))))) = variable-pass tree
-  keyword-pass (node (right (right (right (right (right (left tree))))))) = equation-pass tree
-  keyword-pass (node (right (right (right (right (right (right (left tree)))))))) = model-pass tree
-  keyword-pass (node (right (right (right (right (right (right (right (left tree))))))))) = alias-pass tree
-  keyword-pass (node (right (right (right (right (right (right (right (right tree))))))))) = other-pass tree
+  keyword-pass (node (keyword_set tree)) = set-pass tree
+  keyword-pass (node (keyword_parameter tree)) = parameter-pass tree
+  keyword-pass (node (keyword_scalar tree)) = scalar-pass tree
+  keyword-pass (node (keyword_table tree)) = table-pass tree
+  keyword-pass (node (keyword_variable tree)) = variable-pass tree
+  keyword-pass (node (keyword_equation tree)) = equation-pass tree
+  keyword-pass (node (keyword_model tree)) = model-pass tree
+  keyword-pass (node (keyword_alias tree)) = alias-pass tree
+  keyword-pass (node (keyword_other tree)) = other-pass tree
   keyword-pass tree = (tt, tt)
 
   keywords-pass : (tree : Derivation) → AllPass own (keyword_statements source names labels tree)

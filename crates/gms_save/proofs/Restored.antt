@@ -22,7 +22,7 @@ use Rattle.gms_save.specs.declared.fault.SaveFaultOrMemory.TheVariants.{Memory, 
 use Rattle.gms_save.specs.declared.saved.Saved.{Saved}
 use Rattle.gms_save.specs.Faults.{fault_of_reading, fault_of_source}
 use Rattle.gms_save.specs.InnerRestoreSteps.{IsFaulty, IsFaultyBy, IsFree, IsNoStateBy, IsSavedIn, IsStateOf, IsUnplacedBy}
-use Rattle.gms_save.specs.Saves.{GivesBack, IsNoSave, IsSaveOf, IsUnfit, Restores, most_save_bytes, place_of_solver, with_solver}
+use Rattle.gms_save.specs.Saves.{GivesBack, IsNoSave, IsSaveOf, Restores, most_save_bytes, place_of_solver, with_solver}
 use Rattle.gms_save.proofs.SavedNames.{saved-placed, text-placed}
 use Rattle.gms_save.proofs.SeenPrograms.{same-names, same-saved}
 
@@ -43,18 +43,9 @@ err-is r e h = let p = err_from_is_err_and r h in p.1 ∙ ap (λ (f : SaveFaultO
 answered : (r : Result Saved SaveFaultOrMemory) (e : SaveFaultOrMemory) (solvers : List (List ℕ)) (bytes : List ℕ) → IsErrAnd r (λ f. f ≡ e) → Both solvers bytes (Err e) → Both solvers bytes r
 answered r e solvers bytes h both = subst (Both solvers bytes) (sym (err-is r e h)) both
 
--- bytes that are no save are the save of no state of any program
-no-save : (bytes : List ℕ) → IsNoSave bytes → (source : List ℕ) (program : Program Frac) (state : State) (solver : List ℕ) → IsSaveOf bytes source program state solver → ⊥
-no-save bytes none source program state solver save = by (none source program.names state solver save.text)
-  where
-    by : IsUnfit source program.names state solver → ⊥
-    by (inl (fault, is_fault)) = program_or_fault frac_limit source (program_view frac_value program) fault save.is_program is_fault
-    by (inr (found, is_program, unfit)) =
-        let alike = one_program frac_limit source (program_view frac_value program) (program_view frac_value found) save.is_program is_program in
-        unfit (same-names program found alike) (same-saved program found alike state solver save.is_saved)
-
+-- bytes that are no save
 shapeless : (solvers : List (List ℕ)) (bytes : List ℕ) → length bytes ≤ most_save_bytes → IsNoSave bytes → Both solvers bytes (Err (Fault SaveShape))
-shapeless solvers bytes short none = ((short, none), no-save bytes none)
+shapeless solvers bytes short none = ((short, none), none)
 
 memoryless : (solvers : List (List ℕ)) (bytes : List ℕ) → Both solvers bytes (Err Memory)
 memoryless solvers bytes = (tt, λ source program state solver save. tt)
@@ -81,7 +72,7 @@ unread {A} Q r f solvers bytes short h found = answered r (fault_of_reading f) s
     by : (f : ReadFault) → ((source rest : List ℕ) → bytes ≡ prefix ++ (source_text source ++ rest) → Finds (Err f) (Q source rest)) → Both solvers bytes (Err (fault_of_reading f))
     by read.Memory found = memoryless solvers bytes
     by read.Shape found =
-        shapeless solvers bytes short (λ source names state solver is. absurd (found source (state_text names state solver) is))
+        shapeless solvers bytes short (λ source program state solver save. absurd (found source (state_text program.names state solver) save.text))
 
 -- memory ran out
 pub wanting : (r : Result Saved SaveFaultOrMemory) (solvers : List (List ℕ)) (bytes : List ℕ) → IsErrAnd r (λ e. e ≡ Memory) → Both solvers bytes r
@@ -118,40 +109,28 @@ none_there {A} xs ys r same e = (λ t. sym same ∙ is_none xs (sym e ∙ t), λ
 -- ---- the whole
 
 module _ (solvers : List (List ℕ)) (bytes source text : List ℕ) (short : length bytes ≤ most_save_bytes) (splits : Splits bytes source text) where
-  -- a source that has no program without errors
-  unfit-source : (other : List ℕ) (names : List (List ℕ)) (state : State) (solver : List ℕ) → source ≡ other → IsFaulty source → IsUnfit other names state solver
-  unfit-source other names state solver same (inl fault) = subst (λ (s : List ℕ). IsUnfit s names state solver) same (inl fault)
-  unfit-source other names state solver same (inr (program, is_program, errors)) =
-      subst (λ (s : List ℕ). IsUnfit s names state solver) same (inr (program, is_program, λ _ saved. errors saved.no_error))
+  -- a source without a program that is free of errors has no save
+  unsaved : IsFaulty source → IsNoSave bytes
+  unsaved faulty other found state solver save =
+      let parts = splits other (state_text found.names state solver) save.text in
+      by faulty (subst (λ (s : List ℕ). IsProgram frac_limit s frac_value found) (sym parts.0) save.is_program)
+    where
+      by : IsFaulty source → IsProgram frac_limit source frac_value found → ⊥
+      by (inl (fault, is_fault)) is_program = program_or_fault frac_limit source (program_view frac_value found) fault is_program is_fault
+      by (inr (program, is_own, errors)) is_program =
+          let alike = one_program frac_limit source (program_view frac_value found) (program_view frac_value program) is_program is_own in
+          errors (same-saved found program alike state solver save.is_saved).no_error
 
-  -- has no save
   pub no-program : (r : Result Saved SaveFaultOrMemory) (e : SaveFaultOrMemory) → IsErrAnd r (λ f. f ≡ e) → IsFaultyBy source e → Both solvers bytes r
   no-program r e h faulty = answered r e solvers bytes h (by e faulty)
     where
       by : (e : SaveFaultOrMemory) → IsFaultyBy source e → Both solvers bytes (Err e)
       by Memory faulty = memoryless solvers bytes
       by (Fault SaveTooLong) faulty = absurd faulty
-      by (Fault SaveShape) faulty =
-          shapeless solvers bytes short (λ other names state solver is. unfit-source other names state solver (splits other (state_text names state solver) is).0 faulty)
+      by (Fault SaveShape) faulty = shapeless solvers bytes short (unsaved faulty)
       by (Fault SaveSolver) faulty = absurd faulty
 
   module _ (program : Program Frac) (free : IsFree source program) where
-    -- a text that is that of no saved state of the program
-    unfit-text : (other : List ℕ) (names : List (List ℕ)) (state : State) (solver : List ℕ) → source ≡ other → ((names ≡ program.names) → IsSavedIn program state solver → ⊥) → IsUnfit other names state solver
-    unfit-text other names state solver same none =
-        subst (λ (s : List ℕ). IsUnfit s names state solver) same (inr (program, free.is_program, λ named saved. none named saved.is_saved))
-
-    -- no save has this text after its source
-    pub no-state : (r : Result Saved SaveFaultOrMemory) (e : SaveFaultOrMemory) → IsErrAnd r (λ f. f ≡ e) → IsNoStateBy program text e → Both solvers bytes r
-    no-state r e h none = answered r e solvers bytes h (by e none)
-      where
-        by : (e : SaveFaultOrMemory) → IsNoStateBy program text e → Both solvers bytes (Err e)
-        by Memory none = memoryless solvers bytes
-        by (Fault SaveTooLong) none = absurd none
-        by (Fault SaveShape) none =
-            shapeless solvers bytes short (λ other names state solver is. let parts = splits other (state_text names state solver) is in unfit-text other names state solver parts.0 (λ named saved. none state solver saved (parts.1 ∙ ap (λ (ns : List (List ℕ)). state_text ns state solver) named)))
-        by (Fault SaveSolver) none = absurd none
-
     -- a save is one of this program over this source
     here : (other : List ℕ) (found : Program Frac) (state : State) (name : List ℕ) → IsSaveOf bytes other found state name → IsHere source text program other found state name
     here other found state name save =
@@ -164,22 +143,31 @@ module _ (solvers : List (List ℕ)) (bytes source text : List ℕ) (short : len
           following = parts.1 ∙ ap (λ (ns : List (List ℕ)). state_text ns state name) (sym (same-names program found alike));
         }
 
+    -- no save has this text after its source
+    pub no-state : (r : Result Saved SaveFaultOrMemory) (e : SaveFaultOrMemory) → IsErrAnd r (λ f. f ≡ e) → IsNoStateBy program text e → Both solvers bytes r
+    no-state r e h none = answered r e solvers bytes h (by e none)
+      where
+        by : (e : SaveFaultOrMemory) → IsNoStateBy program text e → Both solvers bytes (Err e)
+        by Memory none = memoryless solvers bytes
+        by (Fault SaveTooLong) none = absurd none
+        by (Fault SaveShape) none =
+            shapeless solvers bytes short (λ other found state name save. let h = here other found state name save in none state name h.saved_in h.following)
+        by (Fault SaveSolver) none = absurd none
+
     module _ (store : State) (solver : List ℕ) (found : IsStateOf program text store solver) where
-      -- the text of the state that was found, with its source, is that of each state that has this
-      -- text
-      same-text : (other : List ℕ) (names : List (List ℕ)) (state : State) (name : List ℕ) → bytes ≡ saved_text other names state name → names ≡ program.names → IsSavedIn program state name → bytes ≡ saved_text source program.names store solver
-      same-text other names state name is named saved =
-          let parts = splits other (state_text names state name) is in
-          let following = parts.1 ∙ ap (λ (ns : List (List ℕ)). state_text ns state name) named in
-          let state_is = found.same_state state name saved following in
-          let solver_is = found.same_solver state name saved following in
-          let one : state_text program.names store solver ≡ state_text program.names state name = ap₂ (λ (s : State) (n : List ℕ). state_text program.names s n) state_is solver_is ∙ text-placed program.names state 0 name in
-          is ∙ ap₂ (λ (s rest : List ℕ). prefix ++ (source_text s ++ rest)) (sym parts.0) (ap (λ (ns : List (List ℕ)). state_text ns state name) named ∙ sym one)
+      -- a save has the text of the state that was found, with its source
+      same-text : (other : List ℕ) (one : Program Frac) (state : State) (name : List ℕ) → IsSaveOf bytes other one state name → bytes ≡ saved_text source program.names store solver
+      same-text other one state name save =
+          let h = here other one state name save in
+          let state_is = found.same_state state name h.saved_in h.following in
+          let solver_is = found.same_solver state name h.saved_in h.following in
+          let same : state_text program.names store solver ≡ state_text program.names state name = ap₂ (λ (s : State) (n : List ℕ). state_text program.names s n) state_is solver_is ∙ text-placed program.names state 0 name in
+          save.text ∙ ap₂ (λ (s rest : List ℕ). prefix ++ (source_text s ++ rest)) (sym h.source_is) (ap (λ (ns : List (List ℕ)). state_text ns state name) (sym (same-names program one h.alike)) ∙ sym same)
 
       -- bytes that are not this text are no save
       pub other-text : (bytes ≡ saved_text source program.names store solver → ⊥) → Both solvers bytes (Err (Fault SaveShape))
       other-text differ =
-          shapeless solvers bytes short (λ other names state name is. let parts = splits other (state_text names state name) is in unfit-text other names state name parts.0 (λ named saved. differ (same-text other names state name is named saved)))
+          shapeless solvers bytes short (λ other one state name save. differ (same-text other one state name save))
 
       module _ (is : bytes ≡ saved_text source program.names store solver) where
         -- they are its save

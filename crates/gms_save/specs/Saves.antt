@@ -1,6 +1,6 @@
 -- Saves: which bytes are one, and what is restored from them (GAMS User's Guide, "Save and
 -- Restart"). Which texts are saves, and how many bytes one may have, is this project's own choice.
-use Rattle.std.specs.Prelude.{◌≡◌, ◌⊎◌, ℕ, ◌-◌, ◌^◌, ◌<◌, ◌≤◌, ◌==◌, List, [], ◌∷◌, length, flat_map, Option, Some, None, position, codes, Result, Ok, Err, if◌then◌else◌}
+use Rattle.std.specs.Prelude.{◌≡◌, ℕ, ◌-◌, ◌^◌, ◌<◌, ◌≤◌, ◌==◌, List, [], ◌∷◌, length, flat_map, Option, Some, None, position, codes, Result, Ok, Err, if◌then◌else◌}
 use Rattle.std.specs.Str.{bytes_eq, str_eq_ignore_ascii_case}
 use Rattle.gq_frac.specs.declared.frac.Frac.{Frac}
 use Rattle.gq_frac.specs.Frac.{frac_value, frac_limit}
@@ -13,8 +13,7 @@ use Rattle.gms_ast.specs.declared.program.Act.TheOpen.{Act-F}
 use Rattle.gms_ast.specs.declared.program.Act.TheFolds.{fold-Stmt}
 use Rattle.gms_store.specs.State.{State}
 use Rattle.gms_store.specs.Declarations.{declared_state}
-use Rattle.gms_parse.specs.declared.fault.SourceFault.{SourceFault}
-use Rattle.gms_parse.specs.Outcomes.{IsProgram, IsSourceFault, program_view}
+use Rattle.gms_parse.specs.Outcomes.{IsProgram, program_view}
 use Rattle.gms_scope.specs.DynamicSets.{dynamic_sets}
 use Rattle.gms_check.specs.Past.{is_among}
 use Rattle.gms_check.specs.CompileErrors.{compile_errors}
@@ -70,16 +69,9 @@ pub record IsSaveOf (bytes source : List ℕ) (program : Program Frac) (state : 
   pub is_saved : IsSavedBy program state solver
   pub text : bytes ≡ saved_text source program.names state solver
 
--- A source with these names has no such saved state: it has a fault; or its program has other
--- names, or does not have the state as a saved one.
-abbrev pub IsUnfit : List ℕ → List (List ℕ) → State → List ℕ → Type 0
-IsUnfit source names state solver =
-    ((fault : SourceFault) × IsSourceFault frac_limit source fault) ⊎ ((program : Program Frac) × IsProgram frac_limit source frac_value program × (names ≡ program.names → IsSavedBy program state solver → ⊥))
-
--- Bytes are no save: whenever they are the text of a state with a source, that source has no such
--- saved state.
+-- bytes are no save: no state of any program has this text
 abbrev pub IsNoSave : List ℕ → Type 0
-IsNoSave bytes = (source : List ℕ) (names : List (List ℕ)) (state : State) (solver : List ℕ) → bytes ≡ saved_text source names state solver → IsUnfit source names state solver
+IsNoSave bytes = (source : List ℕ) (program : Program Frac) (state : State) (solver : List ℕ) → ¬ (IsSaveOf bytes source program state solver)
 
 -- a save whose solver is none of these
 pub record LacksSolver (solvers : List (List ℕ)) (bytes : List ℕ) : Type 0 where

@@ -4,9 +4,8 @@ use Rattle.std.specs.Prelude.{◌≡◌, ◌⊎◌, ℕ, ◌+◌, ◌*◌, ◌-�
 use Rattle.std.specs.Int.{w128, leading_zeros}
 use Rattle.gq_number.specs.Number.{Number}
 use Rattle.lp_core.specs.declared.answer.StepName.{StepName}
-use Rattle.lp_core.specs.Dictionary.{Dictionary, constant_at, entry_at, IsPriced}
+use Rattle.lp_core.specs.Dictionary.{Dictionary, constant_at, entry_at, IsPriced, IsLeaving}
 use Rattle.lp_core.specs.Steps.{FirstStop, ratio_steps}
-use Rattle.lp_fraction_dict.specs.Pivots.{IsLeaving}
 use Rattle.lp_any.specs.Denominators.{row_denominator, column_denominator}
 
 -- how many bits a whole number below 2 ^ 128 has

@@ -1,6 +1,6 @@
 -- Dictionaries, legal pivots and the exchange (Chvatal, Linear Programming, chapters 2 and 3).
-use Rattle.std.specs.Prelude.{◌≡◌, ◌≢◌, ℕ, zero, suc, ◌+◌, ◌&&◌, nat_lt, ◌<◌, ◌≤◌, ◌==◌, ◌⊎◌, Bool, pos, List, [], length, slice_index_or, slice_get, slice_set, Contains, Some, if◌then◌else◌}
-use Rattle.std.specs.List.{list_any, range_with_len}
+use Rattle.std.specs.Prelude.{◌≡◌, ◌≢◌, ◌↔◌, ℕ, zero, suc, ◌+◌, ◌&&◌, nat_lt, ◌<◌, ◌≤◌, ◌==◌, ◌⊎◌, Bool, pos, List, [], length, slice_index_or, slice_get, slice_set, Contains, Option, Some, None, if◌then◌else◌}
+use Rattle.std.specs.List.{All, list_any, range_with_len}
 use Rattle.gq_number.specs.Number.{Number, whole, ◌-ℚ◌, ◌*ℚ◌, ◌/ℚ◌, neg_ℚ}
 use Rattle.gq_number.specs.Order.{◌≤ℚ◌, ◌<ℚ◌, number_cmp}
 use Rattle.gq_number.specs.Sums.{sum_by_ℚ}
@@ -142,6 +142,11 @@ pub record IsStep (d : Dictionary) (p : Pivot) (k : ℕ) : Type 0 where
 abbrev pub IsLegal : Dictionary → Pivot → ℕ → Type 0
 IsLegal d p k = IsOpening d p k ⊎ IsStep d p k
 
+-- the least of the variables that tie leaves; none if no row limits
+abbrev pub IsLeaving : Dictionary → ℕ → Option ℕ → Type 0
+IsLeaving d q None = (k : ℕ) → ¬ (Limits d q k)
+IsLeaving d q (Some v) = ((k : ℕ) × (slice_get d.basic k ≡ Some v) × Ties d q k) × ((i : ℕ) → Ties d q i → v ≤ basic_at d i)
+
 -- ---- the exchange
 
 -- a number of row k over the row's coefficient of the entering variable
@@ -160,3 +165,33 @@ exchanged d q k =
       basic = slice_set d.basic k q;
       numbers = λ i c. if basic_at d k == 0 && c == 1 then whole (pos 0) else exchanged_numbers d q k i c;
     }
+
+-- ---- dictionaries of a program
+
+-- The invariant of each dictionary of a program: every basic variable occurs in its own row alone,
+-- with coefficient 1. If the opening pivot is required, variable 0 has coefficient -1 in each row.
+-- While variable 0 is basic, it is above 0.
+pub record IsProper (d : Dictionary) : Type 0 where
+  pub distinct : (i j v : ℕ) → slice_get d.basic i ≡ Some v → slice_get d.basic j ≡ Some v → i ≡ j
+  pub there : (k v : ℕ) → slice_get d.basic k ≡ Some v → v ≤ d.variables
+  pub own : (k v : ℕ) → slice_get d.basic k ≡ Some v → entry_at d k v ≡ whole (pos 1)
+  pub apart : (k i v : ℕ) → slice_get d.basic k ≡ Some v → i ≢ k → entry_at d i v ≡ whole (pos 0)
+  pub opening : OpeningIsRequired d → (k : ℕ) → k < length d.basic → entry_at d k 0 ≡ neg_ℚ (whole (pos 1))
+  pub above : (k : ℕ) → slice_get d.basic k ≡ Some 0 → whole (pos 0) <ℚ constant_at d k
+
+-- variable 0 has a part in a dictionary: it is basic, or is still to enter
+abbrev pub HasZero : Dictionary → Type 0
+HasZero d = InPhaseOne d ⊎ OpeningIsRequired d
+
+-- A dictionary of a standard form. Its basic variables are variables of the form, and each occurs
+-- in its own row alone. The values that satisfy it are those that satisfy the first dictionary,
+-- with the same objective; once variable 0 has left, this holds for values with 0 at variable 0.
+-- While variable 0 is basic and no opening pivot is required, its constant is above 0.
+pub record IsDictionaryOf (s : Standard) (d : Dictionary) : Type 0 where
+  pub variables : d.variables ≡ length s.objective + length s.rows
+  pub sized : length d.basic ≡ length s.rows
+  pub there : All (λ v. v ≤ d.variables) d.basic
+  pub own : (k : ℕ) → k < length d.basic → entry_at d k (basic_at d k) ≡ whole (pos 1)
+  pub alone : (i k : ℕ) → i ≤ length d.basic → k < length d.basic → i ≢ k → entry_at d i (basic_at d k) ≡ whole (pos 0)
+  pub same : (x : List Number) (objective : Number) → (¬ (HasZero d) → value_of_column x 0 ≡ whole (pos 0)) → Meets d x objective ↔ Meets (first_dictionary s) x objective
+  pub zero_above : (k : ℕ) → slice_get d.basic k ≡ Some 0 → ¬ (OpeningIsRequired d) → whole (pos 0) <ℚ constant_at d k

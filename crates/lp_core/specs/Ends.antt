@@ -1,10 +1,11 @@
 -- How a search ends at a dictionary: the condition of each kind of end, what the recovery gives,
 -- and which step may refuse it (Chvatal, Linear Programming, chapters 2, 3 and 8). Steps defines
 -- the steps of the recovery, and Proofs the certificates of ends.
-use Rattle.std.specs.Prelude.{◌≡◌, ℕ, ◌+◌, ◌<◌, ◌⊎◌, [], map, None}
+use Rattle.std.specs.Prelude.{◌≡◌, ℕ, ◌+◌, ◌<◌, ◌⊎◌, [], map, Option, Some, None}
 use Rattle.gq_number.specs.Number.{Number}
 use Rattle.lp_core.specs.declared.answer.Pivot.{Pivot}
 use Rattle.lp_core.specs.declared.answer.Rule.{Rule}
+use Rattle.lp_core.specs.declared.answer.Rule.TheVariants.{Legal}
 use Rattle.lp_core.specs.declared.answer.StepName.{StepName}
 use Rattle.lp_core.specs.declared.answer.EndKind.{EndKind}
 use Rattle.lp_core.specs.declared.answer.EndKind.TheVariants as kind
@@ -13,7 +14,7 @@ use Rattle.lp_core.specs.declared.answer.End.TheVariants.{Optimal, Infeasible, U
 use Rattle.lp_core.specs.declared.program.Lp.{Lp}
 use Rattle.lp_core.specs.Proofs.{row_sums, IsProved}
 use Rattle.lp_core.specs.StandardForm.{Last, levels_back, duals_back, reduced_back, farkas_back, ray_back}
-use Rattle.lp_core.specs.Dictionary.{Dictionary, OpeningIsRequired, InPhaseOne, Limits}
+use Rattle.lp_core.specs.Dictionary.{Dictionary, OpeningIsRequired, InPhaseOne, Improves, Limits}
 use Rattle.lp_core.specs.Steps.{AllFit, FirstStop, ratio_steps, exchange_steps, steps_back}
 use Rattle.lp_core.specs.Pivots.{IsChosen, NothingImproves, TestFits, last_of, last_along}
 
@@ -51,6 +52,22 @@ EndsAt Chosen BrokenOff d kind.Optimal last = ¬ (InPhaseOne d) × NothingImprov
 EndsAt Chosen BrokenOff d kind.Infeasible last = InPhaseOne d × NothingImproves d × (last ≡ last_of d)
 EndsAt Chosen BrokenOff d kind.Unbounded last = ¬ (InPhaseOne d) × ((q : ℕ) × IsUnlimitedBy Chosen d q × (last ≡ last_along d q))
 EndsAt Chosen BrokenOff d kind.Interrupted last = ¬ (InPhaseOne d) × ¬ (OpeningIsRequired d) × BrokenOff × (last ≡ last_of d)
+
+-- A dictionary at which a search may end with this kind, and what is read from it: any improving
+-- variable may enter, and the search may be broken off while one improves.
+abbrev pub IsReadAt : Dictionary → EndKind → Last → Type 0
+IsReadAt d kind last = EndsAt (Improves d) ((q : ℕ) × Improves d q) d kind last
+
+-- The search ends: nothing improves; or this variable improves and no row limits it; or the search
+-- is broken off in phase 2 though a variable improves.
+abbrev pub IsDone : Dictionary → Option ℕ → Type 0
+IsDone d None = NothingImproves d ⊎ (¬ (InPhaseOne d) × ¬ (OpeningIsRequired d) × ((q : ℕ) × Improves d q))
+IsDone d (Some q) = ¬ (InPhaseOne d) × IsUnlimited Legal d q
+
+-- what is read at a dictionary: with the ray along which this variable rises, or without a ray
+abbrev pub last_with : Dictionary → Option ℕ → Last
+last_with d None = last_of d
+last_with d (Some q) = last_along d q
 
 module _ {F : Type 0} (value : F → Number) (lp : Lp F) where
   -- the recovery: what an end of this kind has, computed from the numbers of the final dictionary

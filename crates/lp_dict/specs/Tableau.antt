@@ -2,8 +2,7 @@
 -- Programming, chapter 2).
 use Rattle.std.specs.Prelude.{◌≢◌, ℕ, ◌≤◌, List, length}
 use Rattle.gq_number.specs.Number.{Number}
-use Rattle.lp_core.specs.Dictionary.{Dictionary, OpeningIsRequired}
-use Rattle.lp_fraction_dict.specs.Pivots.{IsProper}
+use Rattle.lp_core.specs.Dictionary.{Dictionary, OpeningIsRequired, IsProper}
 use Rattle.lp_fraction_dict.specs.Tableau as exact
 use Rattle.lp_integer_dict.specs.Whole.{integer_dictionary as dictionary_of}
 use Rattle.lp_dict.specs.declared.body.Body.{Body}

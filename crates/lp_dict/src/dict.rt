@@ -3,18 +3,17 @@ ghost use Rattle.std.specs.Prelude.{◌≡◌, ◌<◌, ◌≤◌, ◌+◌, ◌^
 ghost use Rattle.gq_number.specs.Number.{Number, ratio, whole};
 ghost use Rattle.lp_core.specs.Sums.{value_of_column};
 ghost use Rattle.lp_core.specs.Pivots.{last_of};
-ghost use Rattle.lp_core.specs.Dictionary.{basic_at, constant_at, entry_at, OpeningIsRequired, IsPriced, Improves, IsLeast, IsOpening, IsLegal, Meets, first_dictionary, exchanged};
+ghost use Rattle.lp_core.specs.Dictionary.{basic_at, constant_at, entry_at, OpeningIsRequired, IsPriced, Improves, IsLeast, IsOpening, IsLegal, Meets, first_dictionary, exchanged, IsDictionaryOf, IsProper, IsLeaving};
 ghost use Rattle.lp_core.specs.Counts.{counted};
 ghost use Rattle.lp_core.specs.Steps.{AllFit, ratio_steps, exchange_steps};
-ghost use Rattle.lp_core.specs.Ends.{IsPhase};
+ghost use Rattle.lp_core.specs.Ends.{IsPhase, IsReadAt, IsDone, last_with};
 ghost use Rattle.lp_core.specs.LargestCoefficient.{HasGreatest};
 ghost use Rattle.lp_core.specs.declared.program.Lp.{Lp};
 ghost use Rattle.lp_core.specs.WellFormed.{IsWellFormed};
 ghost use Rattle.lp_core.specs.StandardForm.{Standard as StandardNumbers, standard_form};
 ghost use Rattle.lp_std.specs.Meaning.{standard_value};
-ghost use Rattle.lp_std.specs.Last.{IsDictionaryOf, IsReadAt, last_value};
-ghost use Rattle.lp_fraction_dict.specs.Reading.{IsDone, last_with};
-ghost use Rattle.lp_fraction_dict.specs.Pivots.{IsProper, IsLeaving, IsLimit, StopsAtStep};
+ghost use Rattle.lp_std.specs.Last.{last_value};
+ghost use Rattle.lp_fraction_dict.specs.Pivots.{IsLimit, StopsAtStep};
 ghost use Rattle.lp_fraction_dict.specs.Tableau.{IsPlace};
 ghost use Rattle.lp_dict.specs.Tableau.{dictionary};
 

@@ -1,25 +1,11 @@
 -- Lists with a number for each variable, as they are read from rows; what the functions promise.
-use Rattle.std.specs.Prelude.{◌≡◌, ◌≢◌, ◌⊎◌, ℕ, ◌+◌, ◌<◌, pos, List, [], map, length, take, slice_get, slice_index_or, Option, Some, None}
+use Rattle.std.specs.Prelude.{◌≡◌, ◌≢◌, ℕ, ◌+◌, ◌<◌, pos, List, [], map, length, take, slice_get, slice_index_or, Some}
 use Rattle.gq_number.specs.Number.{Number, whole, neg_ℚ}
-use Rattle.lp_core.specs.declared.answer.Rule.TheVariants.{Legal}
-use Rattle.lp_core.specs.Ends.{IsUnlimited}
 use Rattle.lp_core.specs.Sums.{value_of_column}
-use Rattle.lp_core.specs.Dictionary.{Dictionary, InPhaseOne, OpeningIsRequired, Improves}
-use Rattle.lp_core.specs.StandardForm.{Last}
-use Rattle.lp_core.specs.Pivots.{NothingImproves, last_of, last_along}
 use Rattle.lp_fraction_dict.specs.declared.row.Entry.{Entry}
 use Rattle.lp_fraction_dict.specs.Rows.{number_in}
-
--- The search ends: nothing improves; or this variable improves and no row limits it; or the search
--- is broken off in phase 2 though a variable improves.
-abbrev pub IsDone : Dictionary → Option ℕ → Type 0
-IsDone d None = NothingImproves d ⊎ (¬ (InPhaseOne d) × ¬ (OpeningIsRequired d) × ((q : ℕ) × Improves d q))
-IsDone d (Some q) = ¬ (InPhaseOne d) × IsUnlimited Legal d q
-
--- what is read at a dictionary: with the ray along which this variable rises, or without a ray
-abbrev pub last_with : Dictionary → Option ℕ → Last
-last_with d None = last_of d
-last_with d (Some q) = last_along d q
+-- passed on: where a search ends, and what is read there
+pub use Rattle.lp_core.specs.Ends.{IsDone, last_with}
 
 module _ {F : Type 0} (value : F → Number) where
   -- a list of `count` zeros

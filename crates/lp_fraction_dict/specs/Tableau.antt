@@ -2,11 +2,10 @@
 -- Linear Programming, chapter 2).
 use Rattle.std.specs.Prelude.{◌≡◌, ℕ, ◌+◌, ◌^◌, ◌<◌, ◌≤◌, List, [], length, slice_get, slice_index_or, Option, Some, None, Contains}
 use Rattle.gq_number.specs.Number.{Number}
-use Rattle.lp_core.specs.Dictionary.{Dictionary}
+use Rattle.lp_core.specs.Dictionary.{Dictionary, IsProper}
 use Rattle.lp_fraction_dict.specs.declared.row.Entry.{Entry}
 use Rattle.lp_fraction_dict.specs.Rows.{IsRow, number_in}
 use Rattle.lp_fraction_dict.specs.Lines.{line}
-use Rattle.lp_fraction_dict.specs.Pivots.{IsProper}
 
 -- The basic variables, a row for each, and the objective, by entries that are not 0; and the number
 -- that the next pivot has in the names of its steps.

@@ -1,8 +1,9 @@
 //! The dictionary and what is read from it.
 ghost use Rattle.std.specs.Prelude.{◌≡◌, ◌<◌, ◌≤◌, ◌+◌, ◌↔◌, ℕ, pos, List, map, slice_get, IsTrue, Some, Contains, MatchOption, IfOk, IfErr};
 ghost use Rattle.gq_number.specs.Number.{Number, whole};
+ghost use Rattle.lp_core.specs.Ends.{IsDone, last_with};
 ghost use Rattle.lp_core.specs.Sums.{value_of_column};
-ghost use Rattle.lp_core.specs.Dictionary.{basic_at, constant_at, entry_at, OpeningIsRequired, IsPriced, Improves, IsLeast, IsOpening, IsLegal, Meets, first_dictionary, exchanged};
+ghost use Rattle.lp_core.specs.Dictionary.{basic_at, constant_at, entry_at, OpeningIsRequired, IsPriced, Improves, IsLeast, IsOpening, IsLegal, Meets, first_dictionary, exchanged, IsDictionaryOf, IsLeaving};
 ghost use Rattle.lp_core.specs.Counts.{counted};
 ghost use Rattle.lp_core.specs.Steps.{AllFit, ratio_steps, exchange_steps};
 ghost use Rattle.lp_core.specs.Pivots.{last_of};
@@ -11,13 +12,11 @@ ghost use Rattle.lp_core.specs.declared.program.Lp.{Lp};
 ghost use Rattle.lp_core.specs.WellFormed.{IsWellFormed};
 ghost use Rattle.lp_core.specs.StandardForm.{Standard as StandardNumbers, standard_form};
 ghost use Rattle.lp_std.specs.Meaning.{standard_value};
-ghost use Rattle.lp_std.specs.Last.{IsDictionaryOf};
 ghost use Rattle.lp_fraction_dict.specs.Rows.{IsRow};
 ghost use Rattle.lp_fraction_dict.specs.Lines.{entries_of_rows};
 ghost use Rattle.lp_fraction_dict.specs.Tableau.{fraction_tableau, fraction_dictionary, IsTableau, IsPlace};
 ghost use Rattle.lp_fraction_dict.specs.InnerPricing.{IsFirstAbove};
-ghost use Rattle.lp_fraction_dict.specs.Reading.{IsDone, last_with};
-ghost use Rattle.lp_fraction_dict.specs.Pivots.{IsLeaving, IsLimit, StopsAtStep};
+ghost use Rattle.lp_fraction_dict.specs.Pivots.{IsLimit, StopsAtStep};
 
 use crate::choice::{is_above_zero, least_constant, least_ratio};
 use crate::coefficients::greatest_above;

@@ -2,8 +2,7 @@
 -- Programming, chapters 2 and 3).
 use Rattle.std.specs.Prelude.{◌≡◌, ◌≢◌, ◌⊎◌, ℕ, ◌+◌, ◌<◌, ◌^◌, nat_lt, List, length, Option, Some, None, Result, IfOk, IfErr, if◌then◌else◌}
 use Rattle.lp_core.specs.declared.answer.Pivot.{Pivot}
-use Rattle.lp_core.specs.Dictionary.{Dictionary, exchanged}
-use Rattle.lp_fraction_dict.specs.Pivots.{IsProper}
+use Rattle.lp_core.specs.Dictionary.{Dictionary, exchanged, IsProper}
 use Rattle.lp_fraction_dict.specs.Tableau.{IsPlace}
 use Rattle.lp_integer_rows.specs.declared.line.Line.{Line}
 use Rattle.lp_integer_rows.specs.Form.{lines_number, numbers_above}

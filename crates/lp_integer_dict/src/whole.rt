@@ -1,10 +1,9 @@
 //! The dictionary by integers.
 ghost use Rattle.std.specs.Prelude.{◌≡◌, ◌≢◌, ℕ, ◌+◌, ◌<◌, ◌≤◌, ◌^◌, pos, nat_abs, length, slice_get, Some, None, false, IfOk, IfErr, IsTrue, MatchOption, Contains};
 ghost use Rattle.gq_number.specs.Number.{whole, ratio};
-ghost use Rattle.lp_core.specs.Dictionary.{basic_at, OpeningIsRequired, IsLeast, IsOpening, IsLegal, Improves, exchanged};
+ghost use Rattle.lp_core.specs.Dictionary.{basic_at, OpeningIsRequired, IsLeast, IsOpening, IsLegal, Improves, exchanged, IsProper, IsLeaving};
 ghost use Rattle.lp_core.specs.LargestCoefficient.{HasGreatest};
 ghost use Rattle.lp_core.specs.Steps.{AllFit, ratio_steps, exchange_steps};
-ghost use Rattle.lp_fraction_dict.specs.Pivots.{IsProper, IsLeaving};
 ghost use Rattle.lp_fraction_dict.specs.Tableau.{IsPlace};
 ghost use Rattle.lp_integer_dict.specs.Whole.{integer_dictionary, whole_dictionary, AreCrowded, IsPivotCrowded, IsPivoted};
 ghost use Rattle.lp_integer_dict.specs.Pairs.{IsSomePairCrowded};

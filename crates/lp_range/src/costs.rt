@@ -1,11 +1,11 @@
 //! The ranges of costs.
 ghost use Rattle.std.specs.Prelude.{◌≡◌, ◌+◌, ◌≤◌, length, map, sum_by, true, IfOk};
 ghost use Rattle.gq_number.specs.Number.{neg_ℚ};
+ghost use Rattle.lp_core.specs.Dictionary.{IsDictionaryOf};
 ghost use Rattle.lp_core.specs.WellFormed.{IsWellFormed};
 ghost use Rattle.lp_core.specs.DualBound.{objective_costs};
 ghost use Rattle.lp_core.specs.StandardForm.{standard_form, directed as directed_number, width, numbered};
 ghost use Rattle.lp_std.specs.Meaning.{standard_value, shift_value};
-ghost use Rattle.lp_std.specs.Last.{IsDictionaryOf};
 ghost use Rattle.lp_fraction_dict.specs.Tableau.{IsPlace};
 ghost use Rattle.lp_dict.specs.Tableau.{dictionary};
 ghost use Rattle.lp_range.specs.Spans.{span};

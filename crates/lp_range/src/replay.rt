@@ -1,7 +1,7 @@
 //! From a program and its pivots to the final dictionary.
 ghost use Rattle.std.specs.Prelude.{◌≡◌, ◌+◌, ℕ, [], slice_get, Some, IfOk};
 ghost use Rattle.lp_core.specs.Counts.{counted};
-ghost use Rattle.lp_core.specs.Dictionary.{Dictionary, IsLegal, exchanged, first_dictionary};
+ghost use Rattle.lp_core.specs.Dictionary.{Dictionary, IsLegal, exchanged, first_dictionary, IsDictionaryOf};
 ghost use Rattle.lp_core.specs.Proofs.{FirstCrossed};
 ghost use Rattle.lp_core.specs.Pivots.{ByRule, LeadsWithin};
 ghost use Rattle.lp_core.specs.StandardForm.{Standard as StandardNumbers, standard_form};
@@ -9,7 +9,6 @@ ghost use Rattle.lp_core.specs.Steps.{AllFit, exchange_steps, standard_steps};
 ghost use Rattle.lp_core.specs.declared.answer.Rule.TheVariants.{Legal};
 ghost use Rattle.lp_core.specs.WellFormed.{IsWellFormed};
 ghost use Rattle.lp_std.specs.Meaning.{standard_value};
-ghost use Rattle.lp_std.specs.Last.{IsDictionaryOf};
 ghost use Rattle.lp_dict.specs.Tableau.{dictionary};
 ghost use Rattle.std.specs.Prelude.{None};
 

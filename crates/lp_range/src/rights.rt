@@ -1,9 +1,9 @@
 //! The ranges of right sides.
 ghost use Rattle.std.specs.Prelude.{◌≡◌, ◌+◌, ◌<◌, ◌≤◌, map, length, true, IfOk};
+ghost use Rattle.lp_core.specs.Dictionary.{IsDictionaryOf};
 ghost use Rattle.lp_core.specs.WellFormed.{IsWellFormed};
 ghost use Rattle.lp_core.specs.StandardForm.{standard_form, rows_of_sense};
 ghost use Rattle.lp_core.specs.Steps.{count_of_rows};
-ghost use Rattle.lp_std.specs.Last.{IsDictionaryOf};
 ghost use Rattle.lp_dict.specs.Tableau.{dictionary};
 ghost use Rattle.lp_range.specs.Spans.{span};
 ghost use Rattle.lp_range.specs.Ranges as of;

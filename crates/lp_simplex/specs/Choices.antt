@@ -3,9 +3,8 @@
 use Rattle.std.specs.Prelude.{ℕ, List, []}
 use Rattle.lp_core.specs.declared.answer.Pivot.{Pivot}
 use Rattle.lp_core.specs.declared.answer.Rule.TheVariants.{Legal}
-use Rattle.lp_core.specs.Dictionary.{Dictionary, Improves}
+use Rattle.lp_core.specs.Dictionary.{Dictionary, Improves, IsProper}
 use Rattle.lp_core.specs.Pivots.{ByRule, Leads}
-use Rattle.lp_fraction_dict.specs.Pivots.{IsProper}
 
 -- a choice, by the first dictionary, the pivots so far, the dictionary they lead to, and a
 -- variable: each chosen variable improves

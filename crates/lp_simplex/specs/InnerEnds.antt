@@ -6,13 +6,11 @@ use Rattle.lp_core.specs.declared.answer.End.{End}
 use Rattle.lp_core.specs.declared.answer.End.TheVariants.{Interrupted, Refused}
 use Rattle.lp_core.specs.declared.program.Lp.{Lp}
 use Rattle.lp_core.specs.StandardForm.{Standard}
-use Rattle.lp_core.specs.Dictionary.{Dictionary, OpeningIsRequired, Improves}
+use Rattle.lp_core.specs.Dictionary.{Dictionary, OpeningIsRequired, Improves, IsDictionaryOf}
 use Rattle.lp_core.specs.Answers.{EndsCrossed, EndsUnformed}
 use Rattle.lp_core.specs.declared.answer.EndKind.{EndKind}
-use Rattle.lp_std.specs.Last.{IsDictionaryOf, IsReadAt}
-use Rattle.lp_core.specs.Ends.{IsPhase, EndsWith}
+use Rattle.lp_core.specs.Ends.{IsPhase, EndsWith, IsReadAt, IsDone, last_with}
 use Rattle.lp_dict.specs.Tableau.{dictionary}
-use Rattle.lp_fraction_dict.specs.Reading.{IsDone, last_with}
 use Rattle.lp_simplex.specs.declared.pivoting.Halt.{Halt}
 use Rattle.lp_simplex.specs.declared.pivoting.Halt.TheVariants as halt
 

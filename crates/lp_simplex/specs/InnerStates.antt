@@ -7,11 +7,9 @@ use Rattle.lp_core.specs.declared.answer.Pivot.{Pivot}
 use Rattle.lp_core.specs.Ends.{IsUnlimitedBy, IsUnfinishedBy, PivotStopsBy}
 use Rattle.lp_core.specs.declared.answer.StepName.{StepName}
 use Rattle.lp_core.specs.StandardForm.{Standard}
-use Rattle.lp_core.specs.Dictionary.{Dictionary, InPhaseOne, exchanged}
+use Rattle.lp_core.specs.Dictionary.{Dictionary, InPhaseOne, exchanged, IsDictionaryOf, IsProper}
 use Rattle.lp_core.specs.Steps.{AllFit, exchange_steps}
 use Rattle.lp_core.specs.Pivots.{NothingImproves, TestFits, IsAllowedBy, ByChoice, LeadsWithin}
-use Rattle.lp_std.specs.Last.{IsDictionaryOf}
-use Rattle.lp_fraction_dict.specs.Pivots.{IsProper}
 use Rattle.lp_dict.specs.Tableau.{Tableau, dictionary}
 use Rattle.lp_simplex.specs.declared.pivoting.NextStep.{NextStep}
 use Rattle.lp_simplex.specs.declared.pivoting.NextStep.TheVariants as required

@@ -6,11 +6,10 @@ use Rattle.lp_core.specs.declared.answer.Answer.{Answer}
 use Rattle.lp_core.specs.declared.answer.Pivot.{Pivot}
 use Rattle.lp_core.specs.declared.answer.Rule.TheVariants.{Bland}
 use Rattle.lp_core.specs.declared.program.Lp.{Lp}
-use Rattle.lp_core.specs.Dictionary.{Dictionary, Improves}
+use Rattle.lp_core.specs.Dictionary.{Dictionary, Improves, IsProper}
 use Rattle.lp_core.specs.Pivots.{IsChosen}
 use Rattle.lp_core.specs.Answers.{IsAnswerByChoice}
 use Rattle.lp_core.specs.LargestCoefficient.{HasTurned}
-use Rattle.lp_fraction_dict.specs.Pivots.{IsProper}
 
 -- the variable that enters next by a rule: one that the rule picks before the turn, and Bland's
 -- after it

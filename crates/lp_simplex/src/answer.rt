@@ -1,20 +1,19 @@
 //! From a linear program to its answer.
 ghost use Rattle.std.specs.Prelude.{◌≡◌, ◌≢◌, ℕ, pos, [], map, replicate, Some, IfOk};
 ghost use Rattle.gq_number.specs.Number.{whole};
+ghost use Rattle.lp_core.specs.Ends.{IsDone};
 ghost use Rattle.lp_core.specs.declared.answer.Rule.TheVariants.{Legal};
 ghost use Rattle.lp_core.specs.Proofs.{FirstCrossed};
 ghost use Rattle.lp_core.specs.declared.answer.StepName.{StepName};
 ghost use Rattle.lp_core.specs.declared.answer.End.TheVariants.{Refused};
-ghost use Rattle.lp_core.specs.Dictionary.{Dictionary};
+ghost use Rattle.lp_core.specs.Dictionary.{Dictionary, IsDictionaryOf};
 ghost use Rattle.lp_core.specs.Answers.{EndsCrossed, IsAnswer, IsAnswerByChoice};
 ghost use Rattle.lp_core.specs.Steps.{AllFit, standard_steps};
 ghost use Rattle.lp_core.specs.WellFormed.{IsWellFormed};
 ghost use Rattle.lp_std.specs.declared.stop.Stop.TheVariants as stops;
 ghost use Rattle.lp_std.specs.Meaning.{standard_value, HasNoForm};
 ghost use Rattle.lp_std.specs.Recovery.{IsFormOf};
-ghost use Rattle.lp_std.specs.Last.{IsDictionaryOf};
 ghost use Rattle.lp_dict.specs.Tableau.{dictionary};
-ghost use Rattle.lp_fraction_dict.specs.Reading.{IsDone};
 ghost use Rattle.lp_simplex.specs.InnerEnds.{MayContinue, CanEnd, IsLedBack, IsBrokenOff, EndsHalted, EndsFormless};
 
 use crate::choosing::Choosing;

@@ -1,8 +1,7 @@
 //! Which of the variables that improve enters.
 ghost use Rattle.std.specs.Prelude.{◌≡◌, ℕ, List, [], ◌∷◌, ◌++◌, slice_get, Some, MatchOption};
 ghost use Rattle.lp_core.specs.declared.answer.Pivot.{Pivot};
-ghost use Rattle.lp_core.specs.Dictionary.{Dictionary, OpeningIsRequired, Improves, IsLegal, exchanged};
-ghost use Rattle.lp_fraction_dict.specs.Pivots.{IsProper};
+ghost use Rattle.lp_core.specs.Dictionary.{Dictionary, OpeningIsRequired, Improves, IsLegal, exchanged, IsProper};
 ghost use Rattle.lp_dict.specs.Tableau.{dictionary};
 
 use gq_field::ExactField;

@@ -1,9 +1,8 @@
 //! The pivot loop, from the first dictionary to the final one.
 ghost use Rattle.std.specs.Prelude.{◌≡◌, ℕ, List, [], IfOk};
 ghost use Rattle.lp_core.specs.declared.answer.Pivot.{Pivot};
-ghost use Rattle.lp_core.specs.Dictionary.{Dictionary, Improves, IsLegal};
+ghost use Rattle.lp_core.specs.Dictionary.{Dictionary, Improves, IsLegal, IsProper};
 ghost use Rattle.lp_core.specs.Pivots.{TestFits, IsTaken};
-ghost use Rattle.lp_fraction_dict.specs.Pivots.{IsProper};
 ghost use Rattle.lp_dict.specs.Tableau.{dictionary};
 ghost use Rattle.lp_simplex.specs.InnerStates as walks;
 
