@@ -1,5 +1,5 @@
 -- A common denominator of one number more.
-use Rattle.std.proofs.Common.{◌≡◌, ℕ, suc, ◌+◌, refl, ap₂, ◌∙◌, subst, arith}
+use Rattle.std.proofs.Common.{◌≡◌, ℕ, suc, ◌+◌, ap₂, ◌∙◌, subst, arith}
 use Rattle.lp_core.specs.Dictionary.{Dictionary}
 use Rattle.lp_any.specs.Denominators.{multiple_of, row_denominator, column_denominator}
 

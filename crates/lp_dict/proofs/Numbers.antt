@@ -3,7 +3,7 @@ use Rattle.std.proofs.Common.{◌≡◌, ℕ, ◌<◌, ◌≤◌, true, false, �
 use Rattle.gq_number.specs.Number.{ratio}
 use Rattle.gq_number.proofs.Means.{ratio_means}
 use Rattle.gq_field.specs.Fits.{fits}
-use Rattle.lp_integer_dict.proofs.Bounds.{fits_by_means}
+use Rattle.lp_integer_dict.proofs.BoundLemmas.{fits_by_means}
 
 -- whole numbers below a bound fit
 pub small_fits : (bound limit : ℕ) (n : ℤ) (d : ℕ) → bound ≤ limit → 0 < d → nat_abs n ≤ bound → d ≤ bound → fits limit (ratio n d) ≡ true

@@ -1,4 +1,5 @@
 -- Why a pivot leads to no dictionary: the first of its steps that does not fit.
+use Rattle.std.specs.Prelude.{List}
 use Rattle.lp_core.specs.Steps.{ExpectedStep, FirstStop}
 use Rattle.lp_std.specs.declared.stop.Stop.{Stop}
 use Rattle.lp_std.specs.declared.stop.Stop.TheVariants as stop

@@ -1,5 +1,5 @@
 pub mod Steps
-pub mod Bounds
+pub mod BoundLemmas
 pub mod Above
 pub mod Reading
 pub mod RowsWithinBound

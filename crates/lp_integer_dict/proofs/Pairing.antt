@@ -18,7 +18,7 @@ use Rattle.lp_integer_rows.specs.Form.{wholes, lines_number, numbers_above, IsLi
 use Rattle.lp_integer_dict.specs.WithinBound.{AreWhole, most_or_one, denominator_or_one, zero_or_one, whole_or_zero, line_denominator, row_most, row_number}
 use Rattle.lp_integer_dict.specs.Pairs.{IsPairWithin, PairExceeds, IsSomePairCrowded, IsMeasured, IsRowOver, IsLowestRow, IsRoomy, IsPairFit, ArePairsFit, rows_top}
 use Rattle.lp_integer_dict.specs.Whole.{row_of, WholeTableau, integer_dictionary, IsWhole}
-use Rattle.lp_integer_dict.proofs.Bounds.{fits_by_means, pair_product, pair_difference}
+use Rattle.lp_integer_dict.proofs.BoundLemmas.{fits_by_means, pair_product, pair_difference}
 use Rattle.lp_integer_rows.proofs.Lessening.{with_sign, with_sign_within, quotient_means}
 use Rattle.lp_integer_rows.proofs.Plans.{some_at}
 use Rattle.lp_integer_dict.proofs.Reading.{at_line, own_number_is, other_number_is, own_shared, other_shared, own_named, other_named, some_v, top_within, low_within}

@@ -3,12 +3,12 @@
 #![tactic(auto)]
 
 mod apart;
+mod bounds;
 mod choice;
 mod coefficients;
 mod laws;
 mod pairs;
 mod read;
-mod bounds;
 mod step;
 mod whole;
 

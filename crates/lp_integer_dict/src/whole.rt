@@ -10,11 +10,11 @@ ghost use Rattle.lp_integer_dict.specs.Pairs.{IsSomePairCrowded};
 ghost use Rattle.lp_integer_rows.specs.Form.{AreLines, AreBounded};
 ghost use Rattle.lp_integer_dict.specs.WithinBound.{IsSomeGreat};
 
+use crate::bounds::{all_within, deferred_stays_within};
 use crate::choice::{first_above, least_constant, least_ratio};
 use crate::coefficients::greatest_above;
 use crate::pairs::pairs_fit;
 use crate::read::{Fraction, read};
-use crate::bounds::{all_within, deferred_stays_within};
 use crate::step::turn_lines;
 use lp_core::Pivot;
 use lp_integer_rows::{Line, forget_zero, raise_at, reduce_lines, swap_lines};
@@ -109,6 +109,7 @@ impl Whole {
 
     /// The number at a column of a row, or of the objective, which follows the rows. Column 0 is
     /// the constant, and variable v has column v + 1.
+    #[inline(always)]
     pub fn number(&self, row: usize, column: usize) -> Fraction
         requires row { row ≤ length self.now.basic }
         requires column { column ≤ self.now.variables + 1 }

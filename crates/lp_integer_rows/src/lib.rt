@@ -2,19 +2,19 @@
 //! what an exchange makes of them.
 #![tactic(auto)]
 
+mod deferral;
 mod exchange;
 mod leading;
 mod line;
 mod marks;
 mod parts;
-mod deferral;
 
+pub use deferral::{forget_zero, raise_at, swap_lines};
 pub use exchange::{exchange_lines, plan_lines, reduce_lines};
 pub use leading::Leading;
 pub use line::{
-    Factors, Line, copied_line, magnitude_at, marked_number_at, number_at, reduced_pair, within_bound,
-    settle,
+    Factors, Line, copied_line, magnitude_at, marked_number_at, number_at, reduced_pair, settle,
+    within_bound,
 };
 pub use marks::Marks;
 pub use parts::{Part, line_of_parts};
-pub use deferral::{forget_zero, raise_at, swap_lines};

@@ -1,5 +1,5 @@
 -- An end recovered from a final dictionary is the end of the search.
-use Rattle.std.proofs.Common.{◌≡◌, ℕ, ◌+◌, inl, inr, length, Option, Some, None, refl, sym, ap, ◌∙◌, subst, arith}
+use Rattle.std.proofs.Common.{◌≡◌, ℕ, ◌+◌, inl, inr, length, Option, Some, None, refl, sym, ap, subst, arith}
 use Rattle.std.proofs.lemmas.List.FromFn.{length-map-range_with_len}
 use Rattle.gq_number.specs.Number.{Number}
 use Rattle.lp_core.specs.declared.answer.Rule.TheVariants.{Legal}

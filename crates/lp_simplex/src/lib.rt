@@ -6,9 +6,9 @@ mod answer;
 mod choosing;
 mod existence;
 mod picking;
+mod pivoting;
 mod turning;
 mod turning_answer;
-mod pivoting;
 
 pub use answer::solve_by;
 pub use choosing::Choosing;

@@ -2,18 +2,18 @@
 //! dictionary to an answer of the program.
 #![tactic(auto)]
 
-mod recovery;
 mod bounds;
 mod duals;
 mod form;
 mod laws;
 mod levels;
+mod recovery;
 mod rows;
 mod stop;
 mod types;
 
-pub use recovery::recover;
 pub use form::standard;
 pub use laws::same_points;
+pub use recovery::recover;
 pub use stop::Stop;
 pub use types::{Final, Origin, Shift, Standard, StdRow};

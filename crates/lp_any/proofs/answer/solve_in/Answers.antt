@@ -1,5 +1,4 @@
-use Rattle.std.proofs.Common.{subst, arith}
-use Rattle.lp_any.specs.Members.{AreRefused, rule_count}
+use Rattle.std.proofs.Common.{arith}
 use Rattle.lp_any.proofs.Each.{none_before, one_more, in_turn, in_turn_if_ok, all_if_ok, bland_if_ok}
 use Rattle.lp_any.proofs.answer.solve_in.Goals as goal
 

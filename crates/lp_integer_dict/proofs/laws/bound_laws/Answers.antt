@@ -1,5 +1,5 @@
 -- When the steps on whole numbers fit.
-use Rattle.lp_integer_dict.proofs.Bounds.{every_ratio_fits, pair_product, pair_difference}
+use Rattle.lp_integer_dict.proofs.BoundLemmas.{every_ratio_fits, pair_product, pair_difference}
 use Rattle.lp_integer_dict.proofs.Above.{bounded_above}
 use Rattle.lp_integer_dict.proofs.laws.bound_laws.Goals as goal
 

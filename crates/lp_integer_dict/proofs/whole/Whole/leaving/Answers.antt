@@ -1,7 +1,7 @@
 use Rattle.std.proofs.Common.{◌+◌, length, Some, None, sym, ap, ◌∙◌, subst, arith}
 use Rattle.lp_integer_dict.specs.WithinBound.{AreWhole}
 use Rattle.lp_integer_dict.specs.Whole.{WholeTableau, IsWhole, integer_dictionary}
-use Rattle.lp_integer_dict.proofs.Bounds.{every_ratio_fits}
+use Rattle.lp_integer_dict.proofs.BoundLemmas.{every_ratio_fits}
 use Rattle.lp_integer_dict.proofs.Wholes.{kept_ratio, bounded}
 use Rattle.lp_integer_dict.proofs.Choices.{none_limits, least_leaves}
 use Rattle.lp_integer_dict.proofs.whole.Whole.leaving.Goals as goal
