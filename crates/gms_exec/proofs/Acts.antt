@@ -28,8 +28,9 @@ use Rattle.gms_exec.specs.Run.{Course, World, labels_in, in_state, with_evaluate
 use Rattle.gms_exec.specs.InnerContracts.{Assigns, IsOnce, AsksNoSolver}
 use Rattle.gms_exec.specs.Stepping.{RunView, course_from_view, Runs, AreValidSettings, UnlessMemory}
 use Rattle.gms_exec.proofs.ActSteps.{on-Assign, on-Display, on-Options, on-Abort, on-Solve, on-Declare, on-Alias, on-Define, on-Model}
-use Rattle.gms_exec.proofs.Arms.{runs-alike, runs-assigned, runs-nothing, runs-state, unless-both}
-use Rattle.gms_exec.proofs.Keeping.{Keeps, run-keeps}
+use Rattle.gms_exec.proofs.Arms.{runs-alike, runs-assigned, runs-nothing, runs-state}
+use Rattle.gms_exec.specs.Executing.{CanExecute}
+use Rattle.gms_exec.proofs.Keeping.{run-keeps}
 use Rattle.gms_exec.proofs.SolveRuns.{as-long}
 
 module _ {F : Type 0} (value : F → Number) (limit : ℕ) (world : World F) (s : Stmt F) (binding : Pairs) where
@@ -109,15 +110,9 @@ lent-runs value limit name program lent solvers result s binding old new e runs 
 
 -- ---- what it kept
 
-module _ {S F A : Type 0} (value : F → Number) (limit : ℕ) (name : S → List ℕ) (program : Program F) (solvers : List S) (result : Result A (ExecStopOrMemory F)) (s : Stmt F) (binding : Pairs) (old new : RunView F) (once : IsOnce s.act) (runs : Runs value result (of_statement value limit (record { program = program; solvers = map name solvers }) s binding) old new) (few : old.state.settings.decimals ≤ 8) (chosen : 0 < length solvers → old.state.settings.solver < length solvers) (plain : AreOneDimensional old.state program.statements.items) where
-  kept : UnlessMemory result (Keeps (length solvers) program.statements.items new.state)
+module _ {S F A : Type 0} (value : F → Number) (limit : ℕ) (name : S → List ℕ) (program : Program F) (solvers : List S) (result : Result A (ExecStopOrMemory F)) (s : Stmt F) (binding : Pairs) (old new : RunView F) (once : IsOnce s.act) (runs : Runs value result (of_statement value limit (record { program = program; solvers = map name solvers }) s binding) old new) (can_execute : CanExecute (length solvers) program.statements.items old.state) where
+  pub kept : UnlessMemory result (CanExecute (length solvers) program.statements.items new.state)
   kept =
-      subst (λ (n : ℕ). UnlessMemory result (Keeps n program.statements.items new.state)) (as-long name solvers)
+      subst (λ (n : ℕ). UnlessMemory result (CanExecute n program.statements.items new.state)) (as-long name solvers)
       (run-keeps value limit (record { program = program; solvers = map name solvers }) result s binding old new once runs
-      (subst (λ (n : ℕ). Keeps n program.statements.items old.state) (sym (as-long name solvers)) (record { settings = record { decimals = few; chosen = chosen }; plain = plain })))
-
-  pub kept-settings : UnlessMemory result (AreValidSettings (length solvers) new.state.settings)
-  kept-settings = unless-both result (Keeps (length solvers) program.statements.items new.state) (AreValidSettings (length solvers) new.state.settings) (λ k. k.settings) kept
-
-  pub kept-plain : UnlessMemory result (AreOneDimensional new.state program.statements.items)
-  kept-plain = unless-both result (Keeps (length solvers) program.statements.items new.state) (AreOneDimensional new.state program.statements.items) (λ k. k.plain) kept
+      (subst (λ (n : ℕ). CanExecute n program.statements.items old.state) (sym (as-long name solvers)) can_execute))

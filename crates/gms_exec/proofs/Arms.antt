@@ -150,7 +150,8 @@ unless-any (Ok x) P p = p
 unless-any (Err Memory) P p = tt
 unless-any (Err (Stop stop)) P p = p
 
-pub unless-both : {F A : Type 0} (result : Result A (ExecStopOrMemory F)) (P Q : Type 0) → (P → Q) → UnlessMemory result P → UnlessMemory result Q
-unless-both (Ok x) P Q f p = f p
-unless-both (Err Memory) P Q f p = tt
-unless-both (Err (Stop stop)) P Q f p = f p
+-- what follows from three facts that hold unless memory ran out
+pub unless-all : {F A : Type 0} (result : Result A (ExecStopOrMemory F)) (P Q R All : Type 0) → (P → Q → R → All) → UnlessMemory result P → UnlessMemory result Q → UnlessMemory result R → UnlessMemory result All
+unless-all (Ok x) P Q R All both p q r = both p q r
+unless-all (Err Memory) P Q R All both p q r = tt
+unless-all (Err (Stop stop)) P Q R All both p q r = both p q r

@@ -27,6 +27,7 @@ use Rattle.lp_core.specs.declared.answer.Answer.{Answer}
 use Rattle.lp_core.specs.declared.program.Lp.{Lp}
 use Rattle.gms_exec.specs.Assignment.{given_by, target_of}
 use Rattle.gms_exec.specs.Dimensions.{AreOverOne, AreOneDimensional}
+use Rattle.gms_exec.specs.Executing.{CanExecute}
 use Rattle.gms_exec.specs.Given.{AllGiven, after_given}
 use Rattle.gms_exec.specs.Options.{after_options}
 use Rattle.gms_exec.specs.Showing.{all_shown}
@@ -60,14 +61,9 @@ module _ {F : Type 0} (old new : State) (stays : Stays old new) where
         declared = λ k d within. over-one (get_or (definitions statements) k d).indices (are.declared k d within);
       }
 
--- what a run keeps: settings, by how many solvers there are, and the definitions of its program
-pub record Keeps {F : Type 0} (solvers : ℕ) (statements : List (Stmt F)) (state : State) : Type 0 where
-  pub settings : AreValidSettings solvers state.settings
-  pub plain : AreOneDimensional state statements
-
 module _ {F : Type 0} (value : F → Number) (limit : ℕ) (world : World F) where
   abbrev Kept : State → Type 0
-  Kept state = Keeps (length world.solvers) world.program.statements.items state
+  Kept state = CanExecute (length world.solvers) world.program.statements.items state
 
   kept-stays : (old new : State) → Stays old new → new.settings ≡ old.settings → Kept old → Kept new
   kept-stays old new stays same kept =

@@ -12,6 +12,7 @@ pub mod Putting
 mod ActSteps
 mod Acts
 mod Arms
+mod BodyDepths
 pub mod Assigned
 mod Chosen
 mod Folding

@@ -13,14 +13,12 @@ use Rattle.gms_eval.specs.declared.stop.ExecStopOrMemory.TheVariants.{Memory, Fa
 use Rattle.lp_core.specs.declared.answer.Answer.{Answer}
 use Rattle.lp_core.specs.declared.answer.Pivot.{Pivot}
 use Rattle.lp_slot.specs.declared.solver.SolverRule.{SolverRule}
-use Rattle.gms_exec.specs.Dimensions.{AreOneDimensional}
+use Rattle.gms_exec.specs.Executing.{CanExecute, Leaves}
 use Rattle.gms_exec.specs.Run.{Course, OfStatement, in_sequence, for_each, of_statement}
-use Rattle.gms_exec.specs.ValidEvents.{ShowsValidEvents}
-use Rattle.gms_exec.specs.Stepping.{RunView, course_from_view, Runs, Answered, AreValidSettings, UnlessMemory}
+use Rattle.gms_exec.specs.Stepping.{RunView, course_from_view, Runs, UnlessMemory}
 use Rattle.gms_exec.proofs.Arms.{unless-any}
 use Rattle.gms_exec.proofs.Joining.{Reaches, LeavesHalted, reaches-more, reaches-stop, reaches-end, statements-halted, each-halted}
-use Rattle.gms_exec.proofs.Keeping.{Keeps}
-use Rattle.gms_exec.proofs.Stepping.{Left, left-start, left-both}
+use Rattle.gms_exec.proofs.Stepping.{left-start, left-both}
 
 module _ {F : Type 0} (value : F → Number) (limit : ℕ) (program : Program F) where
   -- what a statement does to a run, by the names of the solvers
@@ -30,33 +28,15 @@ module _ {F : Type 0} (value : F → Number) (limit : ℕ) (program : Program F)
 module _ {S F : Type 0} (value : F → Number) (limit : ℕ) (name : S → List ℕ) (rule : S → SolverRule) (paths : S → List (List Pivot)) (program : Program F) where
   -- what holds after a call in addition to its run
   abbrev pub LeftBy : List S → List S → RunView F → RunView F → Type 0
-  LeftBy old_solvers new_solvers old new = Left value limit name rule paths program.statements.items old_solvers new_solvers old new
+  LeftBy old_solvers new_solvers old new = Leaves value limit name rule paths program.statements.items old_solvers new_solvers old new
 
   pub left-many : (old_solvers new_solvers : List S) (old new : RunView F) → LeftBy old_solvers new_solvers old new → length new_solvers ≡ length old_solvers
   left-many old_solvers new_solvers old new left = sym (length-map new_solvers name) ∙ ap length left.answered.names ∙ length-map old_solvers name
 
-  -- the clauses of a call on what holds after it
-  pub record Leaves {A : Type 0} (result : Result A (ExecStopOrMemory F)) (old_solvers new_solvers : List S) (old new : RunView F) : Type 0 where
-    pub solvers : UnlessMemory result (Answered value limit name rule paths old_solvers new_solvers old new)
-    pub valid : UnlessMemory result (ShowsValidEvents value limit (map rule old_solvers) new.answers old.events new.events)
-    pub settings : UnlessMemory result (AreValidSettings (length old_solvers) new.state.settings)
-    pub plain : UnlessMemory result (AreOneDimensional new.state program.statements.items)
-
-  pub leaves-of : {A : Type 0} (result : Result A (ExecStopOrMemory F)) (old_solvers new_solvers : List S) (old new : RunView F) → UnlessMemory result (LeftBy old_solvers new_solvers old new) → Leaves result old_solvers new_solvers old new
-  leaves-of (Ok x) old_solvers new_solvers old new left = record { solvers = left.answered; valid = left.valid; settings = left.kept.settings; plain = left.kept.plain }
-  leaves-of (Err Memory) old_solvers new_solvers old new left = record { solvers = tt; valid = tt; settings = tt; plain = tt }
-  leaves-of (Err (Stop stop)) old_solvers new_solvers old new left = record { solvers = left.answered; valid = left.valid; settings = left.kept.settings; plain = left.kept.plain }
-
   -- after a call that changed nothing all is as before
-  pub leaves-nothing : {A : Type 0} (result : Result A (ExecStopOrMemory F)) (solvers : List S) (seen : RunView F) → Keeps (length solvers) program.statements.items seen.state → Leaves result solvers solvers seen seen
+  pub leaves-nothing : {A : Type 0} (result : Result A (ExecStopOrMemory F)) (solvers : List S) (seen : RunView F) → CanExecute (length solvers) program.statements.items seen.state → UnlessMemory result (LeftBy solvers solvers seen seen)
   leaves-nothing result solvers seen kept =
-      leaves-of result solvers solvers seen seen (unless-any result (LeftBy solvers solvers seen seen) (left-start value limit name rule paths program.statements.items solvers seen kept))
-
-  -- the clauses of a call, together
-  pub left-of : {A : Type 0} (result : Result A (ExecStopOrMemory F)) (old_solvers new_solvers : List S) (old new : RunView F) → UnlessMemory result (Answered value limit name rule paths old_solvers new_solvers old new) → UnlessMemory result (ShowsValidEvents value limit (map rule old_solvers) new.answers old.events new.events) → UnlessMemory result (AreValidSettings (length old_solvers) new.state.settings) → UnlessMemory result (AreOneDimensional new.state program.statements.items) → UnlessMemory result (LeftBy old_solvers new_solvers old new)
-  left-of (Ok x) old_solvers new_solvers old new answered valid settings plain = record { answered = answered; valid = valid; kept = record { settings = settings; plain = plain } }
-  left-of (Err Memory) old_solvers new_solvers old new answered valid settings plain = tt
-  left-of (Err (Stop stop)) old_solvers new_solvers old new answered valid settings plain = record { answered = answered; valid = valid; kept = record { settings = settings; plain = plain } }
+      unless-any result (LeftBy solvers solvers seen seen) (left-start value limit name rule paths program.statements.items solvers seen kept)
 
   module _ (does : Course → Course) (sets : List ℕ) (b : Pairs) (body : List (Stmt F)) (elements : List (List ℕ)) (solvers : List S) (old : RunView F) where
     -- what a run does with the elements from a place on
@@ -80,7 +60,7 @@ module _ {S F : Type 0} (value : F → Number) (limit : ℕ) (name : S → List 
       pub bound : inner ≡ controlled b sets element
 
     -- it begins before the first element
-    pub between-start : (inner : Pairs) → inner ≡ b → ((left : List (Answer Number)) → does (course_from_view value old left) ≡ for_each sets (map (step_of value limit program (map name solvers)) body) elements b (course_from_view value old left)) → Keeps (length solvers) program.statements.items old.state → Between 0 inner solvers old
+    pub between-start : (inner : Pairs) → inner ≡ b → ((left : List (Answer Number)) → does (course_from_view value old left) ≡ for_each sets (map (step_of value limit program (map name solvers)) body) elements b (course_from_view value old left)) → CanExecute (length solvers) program.statements.items old.state → Between 0 inner solvers old
     between-start inner is same kept =
         record {
           reached = record { shown = []; events = sym (append-nil old.events); fresh = []; answers = sym (append-nil old.answers); comes = same };
@@ -131,17 +111,10 @@ module _ {S F : Type 0} (value : F → Number) (limit : ℕ) (name : S → List 
         (next-runs {A = A} (Err failed) i element k s inner own mid_solvers mid new within same runs)
 
     -- and what the calls before it, and it, give holds
-    within-left : {A : Type 0} (B : Type 0) (failed : ExecStopOrMemory F) (i : ℕ) (element : List ℕ) (k : ℕ) (inner : Pairs) (mid_solvers new_solvers : List S) (mid new : RunView F) (does_so : Course → Course) → Within i element k inner mid_solvers mid → Runs value {A = A} (Err failed) does_so mid new → UnlessMemory {A = A} (Err failed) (LeftBy mid_solvers new_solvers mid new) → UnlessMemory {A = B} (Err failed) (LeftBy solvers new_solvers old new)
+    pub within-left : {A : Type 0} (B : Type 0) (failed : ExecStopOrMemory F) (i : ℕ) (element : List ℕ) (k : ℕ) (inner : Pairs) (mid_solvers new_solvers : List S) (mid new : RunView F) (does_so : Course → Course) → Within i element k inner mid_solvers mid → Runs value {A = A} (Err failed) does_so mid new → UnlessMemory {A = A} (Err failed) (LeftBy mid_solvers new_solvers mid new) → UnlessMemory {A = B} (Err failed) (LeftBy solvers new_solvers old new)
     within-left B Memory i element k inner mid_solvers new_solvers mid new does_so within runs left = tt
     within-left B (Stop stop) i element k inner mid_solvers new_solvers mid new does_so within runs left =
         left-both value limit name rule paths program.statements.items solvers mid_solvers new_solvers old mid new runs.fresh runs.answers (left-many solvers mid_solvers old mid within.left) within.left left
-
-    pub within-leaves : {A : Type 0} (B : Type 0) (failed : ExecStopOrMemory F) (i : ℕ) (element : List ℕ) (k : ℕ) (inner : Pairs) (mid_solvers new_solvers : List S) (mid new : RunView F) (does_so : Course → Course) → Within i element k inner mid_solvers mid → Runs value {A = A} (Err failed) does_so mid new →
-        UnlessMemory {A = A} (Err failed) (Answered value limit name rule paths mid_solvers new_solvers mid new) → UnlessMemory {A = A} (Err failed) (ShowsValidEvents value limit (map rule mid_solvers) new.answers mid.events new.events) →
-        UnlessMemory {A = A} (Err failed) (AreValidSettings (length mid_solvers) new.state.settings) → UnlessMemory {A = A} (Err failed) (AreOneDimensional new.state program.statements.items) → Leaves {A = B} (Err failed) solvers new_solvers old new
-    within-leaves {A} B failed i element k inner mid_solvers new_solvers mid new does_so within runs answered valid settings plain =
-        leaves-of {A = B} (Err failed) solvers new_solvers old new
-        (within-left {A = A} B failed i element k inner mid_solvers new_solvers mid new does_so within runs (left-of {A = A} (Err failed) mid_solvers new_solvers mid new answered valid settings plain))
 
     -- after the last statement it reaches the next element
     pub within-end : (i : ℕ) (element : List ℕ) (k : ℕ) (inner own : Pairs) (new_solvers : List S) (new : RunView F) → Within i element k inner new_solvers new → length body ≤ k → own ≡ inner → Between (i + 1) own new_solvers new

@@ -2,6 +2,7 @@ pub mod Answering
 pub mod Assignment
 pub mod Dimensions
 pub mod Elements
+pub mod Executing
 pub mod Given
 pub mod Membership
 pub mod Once

@@ -5,11 +5,13 @@ mod assignment;
 mod given;
 mod laws;
 mod membership;
+mod name_domains;
 mod options;
+mod progress;
 mod showing;
 mod solving;
 mod statement;
-mod name_domains;
 
 pub use laws::{assignment_laws, once_laws, solve_laws};
+pub use progress::Progress;
 pub use statement::step;

@@ -201,7 +201,14 @@ fn bounds<F: ExactField>(
     if size > MOST_ELEMENTS {
         return Err(ExecStopOrMemory::too_large(alloc, named.at, size, b));
     }
-    let entries = over_all(alloc, store, &name_domain, size as usize, named.name, suffix)?;
+    let entries = over_all(
+        alloc,
+        store,
+        &name_domain,
+        size as usize,
+        named.name,
+        suffix,
+    )?;
     Ok(entries)
 }
 

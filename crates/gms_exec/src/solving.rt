@@ -9,12 +9,14 @@ ghost use Rattle.lp_core.specs.WellFormed.{IsWellFormed};
 ghost use Rattle.lp_core.specs.Numbers.{lp_numbers, end_numbers};
 ghost use Rattle.gms_rows.specs.Plain.{HasPlainDefinitions};
 ghost use Rattle.gms_rows.specs.Rows.{equations_of};
+ghost use Rattle.gms_exec.specs.Executing.{run_view};
 ghost use Rattle.gms_exec.specs.Run.{solve};
 ghost use Rattle.gms_exec.specs.Solved.{statuses_of, with_point, points, keys_of_columns, row_keys, after_end};
 ghost use Rattle.gms_exec.specs.InnerSolving.{IsExtended, ShowsSolve, Solves, AnswersAt, path_at};
 ghost use Rattle.gms_exec.specs.ValidEvents.{ShowsValidEvents};
 ghost use Rattle.gms_exec.specs.Stepping.{Runs, Answered, UnlessMemory};
 
+use crate::progress::Progress;
 use crate::statement::stopped;
 use gms_ast::{Program, Sequence};
 use gms_eval::{Binding, ExecStopOrMemory, StopKind};
@@ -245,30 +247,29 @@ fn show_solve<F: ExactField>(
 /// into the state, and the solve is shown.
 fn solve_program(
     alloc: Global,
-    store: &mut Store<Frac>,
+    run: &mut Progress,
     program: &Program<Frac>,
     s: Solve,
     lp: Lp<Frac>,
     solvers: &mut Vec<Box<dyn LpSolver>>,
-    answers: &mut Vec<Answer<Frac>>,
-    events: &mut Vec<Event<Frac>>,
 ) -> Result<(), AllocError>
     requires formed { IsWellFormed frac_value lp }
-    requires there { store.old.settings.solver < length solvers.old.items }
+    requires there { run.old.store.settings.solver < length solvers.old.items }
     ensures solves { OnOk result (Solves frac_value (2 ^ 127 - 1) (map name solvers.old.items) (map rule solvers.old.items)
         (map paths solvers.old.items) (map paths solvers.new.items)
-        s.at.line s.model (equations_of program.now.statements.items s.model) s.objective lp
-        (record { state = store.old; events = events.old.items; answers = answers.old.items })
-        (record { state = store.new; events = events.new.items; answers = answers.new.items })) }
+        s.at.line s.model (equations_of program.now.statements.items s.model) s.objective lp (run_view run.old) (run_view run.new)) }
     ensures names { map name solvers.new.items ≡ map name solvers.old.items }
     ensures rules { map rule solvers.new.items ≡ map rule solvers.old.items }
-    ensures answers { IsExtended answers.old.items answers.new.items }
-    ensures events { IsExtended events.old.items events.new.items }
+    ensures answers { IsExtended run.old.answers.items run.new.answers.items }
+    ensures events { IsExtended run.old.events.items run.new.events.items }
 {
-    let settings = store.settings();
+    let settings = run.store.settings();
     let place = settings.solver as usize;
     let (answer, name) = solve_at(alloc, solvers, place, &lp, settings.iterlim as u64)?;
-    put_answer(alloc, store, s.model, &lp, &answer.end)?;
+    put_answer(alloc, &mut run.store, s.model, &lp, &answer.end)?;
+    let store = &run.store;
+    let answers = &mut run.answers;
+    let events = &mut run.events;
     show_solve(
         alloc, store, program, s, lp, answer, name, settings, answers, events,
     )
@@ -281,39 +282,35 @@ fn solve_program(
 /// program. GAMS User's Guide, "Model and Solve Statements".
 pub(crate) fn solve_model(
     alloc: Global,
-    store: &mut Store<Frac>,
+    run: &mut Progress,
     program: &Program<Frac>,
     s: Solve,
     b: &Binding,
     solvers: &mut Vec<Box<dyn LpSolver>>,
-    answers: &mut Vec<Answer<Frac>>,
-    events: &mut Vec<Event<Frac>>,
 ) -> Result<(), ExecStopOrMemory<Frac>>
-    requires chosen { 0 < length solvers.old.items → store.old.settings.solver < length solvers.old.items }
-    requires plain { HasPlainDefinitions store.old program.now.statements.items }
+    requires chosen { 0 < length solvers.old.items → run.old.store.settings.solver < length solvers.old.items }
+    requires plain { HasPlainDefinitions run.old.store program.now.statements.items }
     ensures runs { Runs frac_value result
         (solve frac_value (2 ^ 127 - 1)
-        (map name solvers.old.items) program.now.statements.items s.model s.objective s.maximize s.at b.now)
-        (record { state = store.old; events = events.old.items; answers = answers.old.items })
-        (record { state = store.new; events = events.new.items; answers = answers.new.items }) }
+        (map name solvers.old.items) program.now.statements.items s.model s.objective s.maximize s.at b.now) (run_view run.old)
+        (run_view run.new) }
     ensures solvers { UnlessMemory result (Answered frac_value (2 ^ 127 - 1) name rule paths solvers.old.items solvers.new.items
-        (record { state = store.old; events = events.old.items; answers = answers.old.items })
-        (record { state = store.new; events = events.new.items; answers = answers.new.items })) }
+        (run_view run.old) (run_view run.new)) }
     ensures valid { UnlessMemory result (ShowsValidEvents frac_value (2 ^ 127 - 1)
-        (map rule solvers.old.items) answers.new.items events.old.items events.new.items) }
+        (map rule solvers.old.items) run.new.answers.items run.old.events.items run.new.events.items) }
 {
     if solvers.is_empty() {
         return Err(stopped(alloc, StopKind::NoSolver, s.at, b));
     }
     let lp = generate(
         alloc,
-        store,
+        &run.store,
         program,
         s.model,
         s.objective,
         s.maximize,
         s.at,
     )?;
-    solve_program(alloc, store, program, s, lp, solvers, answers, events)?;
+    solve_program(alloc, run, program, s, lp, solvers)?;
     Ok(())
 }

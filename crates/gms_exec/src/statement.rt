@@ -8,17 +8,18 @@ ghost use Rattle.gms_store.specs.State.{with_settings};
 ghost use Rattle.gms_eval.specs.Faults.{faulted, nothing};
 ghost use Rattle.gms_eval.specs.Gives.{Shows};
 ghost use Rattle.gms_exec.specs.Assignment.{target_of, after_assignment};
-ghost use Rattle.gms_exec.specs.Dimensions.{AreOneDimensional};
+ghost use Rattle.gms_exec.specs.Executing.{CanExecute, Leaves, run_view};
 ghost use Rattle.gms_exec.specs.Options.{after_options};
 ghost use Rattle.lp_core.specs.declared.answer.Answer.{Answer};
 ghost use Rattle.gms_exec.specs.Run.{of_statement, display, abort, abort_where};
 ghost use Rattle.lp_slot.specs.declared.solver.SolverRule.{SolverRule};
 ghost use Rattle.gms_exec.specs.ValidEvents.{ShowsValidEvents};
 ghost use Rattle.gms_exec.specs.InnerContracts.{Assigns, IsOnce, AsksNoSolver, ShowsNoSolve};
-ghost use Rattle.gms_exec.specs.Stepping.{Runs, Answered, AreValidSettings, UnlessMemory};
+ghost use Rattle.gms_exec.specs.Stepping.{Runs, UnlessMemory};
 
 use crate::assignment::Assignment;
 use crate::options::after_options;
+use crate::progress::Progress;
 use crate::showing::all_shown;
 use crate::solving::{Solve, solve_model};
 use gms_ast::{Act, Expr, Program, Right, Setting, Show, Stmt, Target, Word};
@@ -33,9 +34,9 @@ use lp_core::Answer;
 use lp_slot::LpSolver;
 use std::alloc::Global;
 
-/// Executes a statement of a checked program: what it shows is appended to the events, the answers
-/// that it takes to the answers, and the state is the one after it. A loop goes over the elements
-/// that its domain has where it begins.
+/// Executes a statement of a checked program in a run: what it shows is appended to the events, the
+/// answers that it takes to the answers, and the state is the one after it. A loop goes over the
+/// elements that its domain has where it begins. There are fewer than 2^32 solvers.
 ///
 /// A stop is the first fault of the statement. What it showed and took before stays, and the state
 /// is the one that it had reached. The kinds are those of its expressions, domains and rows;
@@ -45,42 +46,31 @@ use std::alloc::Global;
 /// again. GAMS User's Guide, "GAMS Programs", "Programming Flow Control Features".
 pub fn step(
     alloc: Global,
-    store: &mut Store<Frac>,
+    run: &mut Progress,
     program: &Program<Frac>,
     s: &Stmt<Frac>,
     b: &Binding,
     solvers: &mut Vec<Box<dyn LpSolver>>,
-    answers: &mut Vec<Answer<Frac>>,
-    events: &mut Vec<Event<Frac>>,
 ) -> Result<(), ExecStopOrMemory<Frac>>
     requires few { length solvers.old.items < 2 ^ 32 }
-    requires decimals { store.old.settings.decimals ≤ 8 }
-    requires chosen { 0 < length solvers.old.items → store.old.settings.solver < length solvers.old.items }
-    requires plain { AreOneDimensional store.old program.now.statements.items }
+    requires can_execute { CanExecute (length solvers.old.items) program.now.statements.items run.old.store }
     ensures runs { Runs frac_value result
         (of_statement frac_value (2 ^ 127 - 1)
-        (record { program = program.now; solvers = map name solvers.old.items }) s.now b.now)
-        (record { state = store.old; events = events.old.items; answers = answers.old.items })
-        (record { state = store.new; events = events.new.items; answers = answers.new.items }) }
-    ensures solvers { UnlessMemory result (Answered frac_value (2 ^ 127 - 1) name rule paths solvers.old.items solvers.new.items
-        (record { state = store.old; events = events.old.items; answers = answers.old.items })
-        (record { state = store.new; events = events.new.items; answers = answers.new.items })) }
-    ensures valid { UnlessMemory result (ShowsValidEvents frac_value (2 ^ 127 - 1)
-        (map rule solvers.old.items) answers.new.items events.old.items events.new.items) }
-    ensures settings { UnlessMemory result (AreValidSettings (length solvers.old.items) store.new.settings) }
-    ensures plain { UnlessMemory result (AreOneDimensional store.new program.now.statements.items) }
+        (record { program = program.now; solvers = map name solvers.old.items }) s.now b.now) (run_view run.old)
+        (run_view run.new) }
+    ensures leaves { UnlessMemory result (Leaves frac_value
+        (2 ^ 127 - 1) name rule paths program.now.statements.items solvers.old.items solvers.new.items (run_view run.old)
+        (run_view run.new)) }
 {
     let Act::Loop { control, body } = &s.act else {
-        return once(alloc, store, program, s, b, solvers, answers, events);
+        return once(alloc, run, program, s, b, solvers);
     };
-    let elements = domain(alloc, store, control, s.at, b)?;
+    let elements = domain(alloc, &run.store, control, s.at, b)?;
     let mut inner = b.copy(alloc)?;
     for element in &elements {
         inner.control(b.len(), control.sets.as_slice(), element.as_slice())?;
         for statement in body {
-            step(
-                alloc, store, program, statement, &inner, solvers, answers, events,
-            )?;
+            step(alloc, run, program, statement, &inner, solvers)?;
         }
     }
     Ok(())
@@ -89,31 +79,22 @@ pub fn step(
 /// Executes a statement that is no loop.
 fn once(
     alloc: Global,
-    store: &mut Store<Frac>,
+    run: &mut Progress,
     program: &Program<Frac>,
     s: &Stmt<Frac>,
     b: &Binding,
     solvers: &mut Vec<Box<dyn LpSolver>>,
-    answers: &mut Vec<Answer<Frac>>,
-    events: &mut Vec<Event<Frac>>,
 ) -> Result<(), ExecStopOrMemory<Frac>>
     requires no_loop { IsOnce s.now.act }
     requires few { length solvers.old.items < 2 ^ 32 }
-    requires decimals { store.old.settings.decimals ≤ 8 }
-    requires chosen { 0 < length solvers.old.items → store.old.settings.solver < length solvers.old.items }
-    requires plain { AreOneDimensional store.old program.now.statements.items }
+    requires can_execute { CanExecute (length solvers.old.items) program.now.statements.items run.old.store }
     ensures runs { Runs frac_value result
         (of_statement frac_value (2 ^ 127 - 1)
-        (record { program = program.now; solvers = map name solvers.old.items }) s.now b.now)
-        (record { state = store.old; events = events.old.items; answers = answers.old.items })
-        (record { state = store.new; events = events.new.items; answers = answers.new.items }) }
-    ensures solvers { UnlessMemory result (Answered frac_value (2 ^ 127 - 1) name rule paths solvers.old.items solvers.new.items
-        (record { state = store.old; events = events.old.items; answers = answers.old.items })
-        (record { state = store.new; events = events.new.items; answers = answers.new.items })) }
-    ensures valid { UnlessMemory result (ShowsValidEvents frac_value (2 ^ 127 - 1)
-        (map rule solvers.old.items) answers.new.items events.old.items events.new.items) }
-    ensures settings { UnlessMemory result (AreValidSettings (length solvers.old.items) store.new.settings) }
-    ensures plain { UnlessMemory result (AreOneDimensional store.new program.now.statements.items) }
+        (record { program = program.now; solvers = map name solvers.old.items }) s.now b.now) (run_view run.old)
+        (run_view run.new) }
+    ensures leaves { UnlessMemory result (Leaves frac_value
+        (2 ^ 127 - 1) name rule paths program.now.statements.items solvers.old.items solvers.new.items (run_view run.old)
+        (run_view run.new)) }
 {
     let Act::Solve {
         model,
@@ -122,6 +103,8 @@ fn once(
         ..
     } = &s.act
     else {
+        let store = &mut run.store;
+        let events = &mut run.events;
         return without_solving(alloc, store, program, s, b, solvers.as_slice(), events);
     };
     let solve = Solve {
@@ -130,7 +113,7 @@ fn once(
         maximize: *maximize,
         at: s.at,
     };
-    solve_model(alloc, store, program, solve, b, solvers, answers, events)
+    solve_model(alloc, run, program, solve, b, solvers)
 }
 
 /// Executes a statement that is no loop and no solve.

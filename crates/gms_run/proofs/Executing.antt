@@ -15,6 +15,7 @@ use Rattle.lp_core.specs.declared.answer.Answer.{Answer}
 use Rattle.lp_slot.specs.declared.solver.SolverRule.{SolverRule}
 use Rattle.lp_core.specs.declared.program.Lp.{Lp}
 use Rattle.gms_exec.specs.Run.{Course, in_sequence, of_statement, while_it_runs}
+use Rattle.gms_exec.specs.Executing.{CanExecute}
 use Rattle.gms_list.specs.ListingText.{echo_text}
 use Rattle.gms_run.specs.declared.status.Status.{Status}
 use Rattle.gms_run.specs.declared.status.Status.TheVariants.{Done, Execution}
@@ -22,7 +23,7 @@ use Rattle.gms_run.specs.Solving.{Solvers, Solving}
 use Rattle.gms_run.specs.ProgramsToRun.{IsCutOff, IsRunSolved, ProgramToRun, body_of, first_of, shown_by}
 use Rattle.gms_run.specs.declared.execution.Run.{Run}
 use Rattle.gms_run.specs.InnerRuns.{ListsStatement, between, pending}
-use Rattle.gms_run.specs.InnerSteps.{Between, BreaksAfter, CanExecute, Ends, EndsAfter, IsListed, work}
+use Rattle.gms_run.specs.InnerSteps.{Between, BreaksAfter, Ends, EndsAfter, IsListed, work}
 use Rattle.gms_run.proofs.Listed.{listed_none, listed_more, one_more}
 use Rattle.gms_run.proofs.Rest.{Done_so, EndsWith, begin, comes_to_rest, ends_done, ends_stopped, shown_by_first, solving_with, statements, statement_of, taken_by_first}
 
@@ -189,7 +190,7 @@ module _ (to_run : ProgramToRun) (before : Solvers) (old : Outside) (expected : 
 pub record AtStatement (to_run : ProgramToRun) (before : Solvers) (many : ℕ) (old now : Meaning) (expected : List ℕ) (i : ℕ) (at : Between) (left : List ℕ) : Type 0 where
   pub come : HasCome to_run before old.outside now.outside expected i at left
   pub within_bound : length left ≤ 4096
-  pub can_execute : CanExecute to_run.program many at.state
+  pub can_execute : CanExecute many to_run.program.statements.items at.state
   pub counts : CountsWriting all_done old.counts now.counts
 
 -- as many solvers as before, where they have the same names

@@ -258,7 +258,7 @@ IsRemarked request program last solved answers text =
 -- the remarks on a run of a program are those that its state calls for
 abbrev pub HasRemarks : Asked → Program Frac → Run → Type 0
 HasRemarks request program run =
-    IsRemarked request program run.store run.solved.items run.answers.items (string_bytes run.remarks)
+    IsRemarked request program run.progress.store run.solved.items run.progress.answers.items (string_bytes run.remarks)
 
 -- The bytes are the save of a last state with its source, and the numbers of the state are within
 -- the limit.
@@ -273,7 +273,7 @@ IsSave status request solvers source program last bytes = IfSome (save_file stat
 -- the save of a run of a program over a source, where one is requested, is that of its state
 abbrev pub HasSave : Status → Asked → List (List ℕ) → List ℕ → Program Frac → Run → Type 0
 HasSave status request solvers source program run =
-    IsSave status request solvers source program run.store run.save.items
+    IsSave status request solvers source program run.progress.store run.save.items
 
 -- ---- counts
 

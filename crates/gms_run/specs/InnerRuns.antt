@@ -23,7 +23,7 @@ pending run = run.outlet.spool ++ run.outlet.listing
 
 -- Nothing has been solved in the run.
 pub record IsUnsolved (run : Run) : Type 0 where
-  pub unanswered : run.answers.items ≡ []
+  pub unanswered : run.progress.answers.items ≡ []
   pub unsolved : run.solved.items ≡ []
 
 -- The run has not begun: nothing has been solved or listed, and there is nothing to print after its
@@ -36,7 +36,7 @@ pub record IsFresh (run : Run) : Type 0 where
 -- a run between two statements, with these solvers
 abbrev pub between : Solvers → Run → Between
 between solvers run =
-    record { state = run.store; answers = run.answers.items; programs = run.solved.items; solvers = solvers }
+    record { state = run.progress.store; answers = run.progress.answers.items; programs = run.solved.items; solvers = solvers }
 
 -- A statement of a program was executed and listed; the solvers are given before it and after it.
 abbrev pub ListsStatement : Bool → Program Frac → Stmt Frac → Solvers → Run → Solvers → Run → Type 0
@@ -59,12 +59,12 @@ moment name rule paths host solvers run =
 -- what a run solved with from one moment to another: its solvers before and after, and the answers
 -- that they gave
 abbrev pub solved_between : Moment → Moment → Solving
-solved_between old new = record { before = old.solvers; after = new.solvers; answers = new.run.answers.items }
+solved_between old new = record { before = old.solvers; after = new.solvers; answers = new.run.progress.answers.items }
 
 -- The statements of a program to run were executed after the pending text: to their end, or up to
 -- a statement whose listing was not written.
 abbrev pub ExecutesProgram : Result Status Failed → ProgramToRun → Moment → Moment → Type 0
 ExecutesProgram result to_run old new =
     ResultsIn result
-    (λ status. EndsAfter status to_run (solved_between old new) new.run.store new.run.solved.items old.host.outside new.host.outside (pending old.run) (pending new.run))
+    (λ status. EndsAfter status to_run (solved_between old new) new.run.progress.store new.run.solved.items old.host.outside new.host.outside (pending old.run) (pending new.run))
     (BreaksAfter to_run (solved_between old new) old.host.outside new.host.outside (pending old.run))

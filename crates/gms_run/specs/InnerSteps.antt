@@ -21,9 +21,7 @@ use Rattle.lp_core.specs.declared.answer.Answer.{Answer}
 use Rattle.lp_slot.specs.declared.solver.SolverRule.{SolverRule}
 use Rattle.lp_core.specs.declared.program.Lp.{Lp}
 use Rattle.lp_core.specs.Numbers.{lp_numbers}
-use Rattle.gms_exec.specs.Dimensions.{AreOneDimensional}
 use Rattle.gms_exec.specs.Run.{Course, stopped, last_event}
-use Rattle.gms_exec.specs.Stepping.{AreValidSettings}
 use Rattle.gms_exec.specs.ValidEvents.{IsValidEvent, IsValidSolve}
 use Rattle.gms_list.specs.ListingText.{events_text}
 use Rattle.gms_run.specs.declared.status.Status.{Status}
@@ -55,14 +53,6 @@ abbrev pub programs_in : List (OwnEvent Frac) → List (Lp Frac)
 programs_in [] = []
 programs_in (own.Solve line model equations lp answer solver settings level ∷ events) = lp ∷ programs_in events
 programs_in (other ∷ events) = programs_in events
-
--- ---- before statements
-
--- Statements of a program can be executed with n solvers in a state: its settings are within their
--- ranges, and definitions are over sets of one dimension.
-pub record CanExecute (program : Program Frac) (n : ℕ) (state : State) : Type 0 where
-  pub settings : AreValidSettings n state.settings
-  pub plain : AreOneDimensional state program.statements.items
 
 -- ---- between statements
 

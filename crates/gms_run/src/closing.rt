@@ -84,20 +84,20 @@ fn pivots_of(answers: &[Answer<Frac>]) -> u128
 impl Run {
     /// The status of the model `t` in the state; 0 without such a name.
     fn model_status(&self, program: &Program<Frac>) -> u8
-        ensures { result ≡ model_status program.now self.now.store }
+        ensures { result ≡ model_status program.now self.now.progress.store }
     {
         match program.names.find("t") {
-            Some(model) => self.store.status(model).0,
+            Some(model) => self.progress.store.status(model).0,
             None => 0,
         }
     }
 
     /// The level of the variable `z` in the state; 0 without such a name.
     fn objective_level(&self, alloc: Global, program: &Program<Frac>) -> Frac
-        ensures { frac_value result ≡ objective_level program.now self.now.store }
+        ensures { frac_value result ≡ objective_level program.now self.now.progress.store }
     {
         match program.names.find("z") {
-            Some(variable) => self.store.level(variable, &Tuple::new(alloc)),
+            Some(variable) => self.progress.store.level(variable, &Tuple::new(alloc)),
             None => Frac::zero(),
         }
     }
@@ -110,7 +110,7 @@ impl Run {
         program: &Program<Frac>,
         answers: &[Answer<Frac>],
     ) -> Result<String, AllocError>
-        ensures { IfOk result (λ line. IsModelLine size program.now self.now.store answers.now (string_bytes line)) }
+        ensures { IfOk result (λ line. IsModelLine size program.now self.now.progress.store answers.now (string_bytes line)) }
     {
         let mut digits = Digits::new();
         put_rounded(self.objective_level(alloc, program), DECIMALS, &mut digits);
@@ -131,7 +131,7 @@ impl Run {
         program: &Program<Frac>,
         answers: &[Answer<Frac>],
     ) -> Result<String, AllocError>
-        ensures { IfOk result (λ line. IsTold (origin source.entry) program.now self.now.store answers.now (string_bytes line)) }
+        ensures { IfOk result (λ line. IsTold (origin source.entry) program.now self.now.progress.store answers.now (string_bytes line)) }
     {
         match source {
             Source::Generate(size) => self.model_line(alloc, size, program, answers),
@@ -166,7 +166,8 @@ impl Run {
         answers: &[Answer<Frac>],
     ) -> Result<String, AllocError>
         requires { AreSomeAnswers frac_value frac_limit self.now.solved.items answers.now }
-        ensures { IfOk result (λ text. IsRemarked (asked_by request.entry) program.now self.now.store self.now.solved.items answers.now (string_bytes text)) }
+        ensures { IfOk result (λ text. IsRemarked
+            (asked_by request.entry) program.now self.now.progress.store self.now.solved.items answers.now (string_bytes text)) }
     {
         let mut text = self.ranged(alloc, request.ranges, program, answers)?;
         let line = self.told(alloc, request.source, program, answers)?;
@@ -185,14 +186,15 @@ impl Run {
         program: &Program<Frac>,
         solvers: &[Box<dyn LpSolver>],
     ) -> Result<Vec<u8>, AllocError>
-        ensures { IfOk result (λ bytes. IsSave status (asked_by request.entry) (map name solvers.now) source.now program.now self.now.store bytes.items) }
+        ensures { IfOk result (λ bytes. IsSave status (asked_by request.entry)
+            (map name solvers.now) source.now program.now self.now.progress.store bytes.items) }
     {
         if save_file(status, request).is_none() {
             return Ok(Vec::new(alloc));
         }
-        look_at_numbers(&self.store, program.names.len());
-        let solver = solver_name(solvers, self.store.settings().solver);
-        save(alloc, source, program, &self.store, solver)
+        look_at_numbers(&self.progress.store, program.names.len());
+        let solver = solver_name(solvers, self.progress.store.settings().solver);
+        save(alloc, source, program, &self.progress.store, solver)
     }
 }
 

@@ -6,10 +6,9 @@ ghost use Rattle.gms_eval.specs.Gives.{fault_of};
 ghost use Rattle.gms_event.specs.EventView.{events_in};
 ghost use Rattle.gms_event.specs.Events.{stops};
 ghost use Rattle.gms_store.specs.State.{State};
-ghost use Rattle.gms_exec.specs.Dimensions.{AreOneDimensional};
+ghost use Rattle.gms_exec.specs.Executing.{CanExecute, Leaves, run_view};
 ghost use Rattle.gms_exec.specs.Run.{of_statement};
-ghost use Rattle.gms_exec.specs.ValidEvents.{ShowsValidEvents};
-ghost use Rattle.gms_exec.specs.Stepping.{AreValidSettings, Answered, Runs, UnlessMemory};
+ghost use Rattle.gms_exec.specs.Stepping.{Runs, UnlessMemory};
 ghost use Rattle.gms_list.specs.Conditions.{IsListable};
 ghost use Rattle.gms_list.specs.ListingText.{echo_text, event_text, events_text};
 ghost use Rattle.gms_host.specs.Rules.{CountsWriting};
@@ -17,7 +16,7 @@ ghost use Rattle.gms_host.specs.Spooling.{Passes, WritesPrefix};
 ghost use Rattle.gms_command.specs.CommandLine.{asked_by};
 ghost use Rattle.gms_run.specs.InnerReports.{Begins, HasRemarks, HasRest, HasSave, ListsBody, script_in};
 ghost use Rattle.gms_run.specs.InnerRuns.{ExecutesProgram, IsFresh, IsUnsolved, ListsStatement, moment, pending};
-ghost use Rattle.gms_run.specs.InnerSteps.{CanExecute, ResultsIn, programs_in, work};
+ghost use Rattle.gms_run.specs.InnerSteps.{ResultsIn, programs_in, work};
 ghost use Rattle.gms_run.specs.Scripts.{scripted, statements_to_run};
 ghost use Rattle.gms_run.specs.Solving.{numbers_of, solver_views};
 
@@ -29,7 +28,7 @@ use gms_ast::{Program, Stmt};
 use gms_command::Request;
 use gms_eval::{Binding, ExecStop, ExecStopOrMemory};
 use gms_event::Event;
-use gms_exec::step;
+use gms_exec::{Progress, step};
 use gms_host::{Failed, Host};
 use gms_list::Listing;
 use gms_store::Store;
@@ -37,15 +36,15 @@ use gq_frac::Frac;
 use lp_core::{Answer, Lp};
 use lp_slot::LpSolver;
 use std::alloc::{AllocError, Global};
+use std::mem::replace;
 
 /// A run in progress.
 pub(crate) struct Run {
-    /// The answers of its solvers, in the order of the solves.
-    pub(crate) answers: Vec<Answer<Frac>>,
-    /// The linear programs of these solves, in order.
+    /// Its progress: its state, and the answers of its solvers. Before its program begins, the
+    /// state is the saved one, if it resumes from one.
+    pub(crate) progress: Progress,
+    /// The linear programs of its solves, in order.
     pub(crate) solved: Vec<Lp<Frac>>,
-    /// Its state; before its program begins, the saved state, if it resumes from one.
-    pub(crate) store: Store<Frac>,
     /// The part of its listing that is not written yet.
     pub(crate) outlet: Outlet,
     /// The remarks on it, which are printed after its listing.
@@ -58,9 +57,8 @@ pub(crate) struct Run {
 impl Drop for Run {
     fn drop(self) {
         let Self {
-            answers: _,
+            progress: _,
             solved: _,
-            store: _,
             outlet: _,
             remarks: _,
             save: _,
@@ -130,29 +128,20 @@ fn show(
 /// Executes a statement that no loop contains.
 fn step_alone(
     alloc: Global,
-    store: &mut Store<Frac>,
+    run: &mut Progress,
     program: &Program<Frac>,
     s: &Stmt<Frac>,
     solvers: &mut Vec<Box<dyn LpSolver>>,
-    answers: &mut Vec<Answer<Frac>>,
-    events: &mut Vec<Event<Frac>>,
 ) -> Result<(), ExecStopOrMemory<Frac>>
     requires few { length solvers.old.items < 2 ^ 32 }
-    requires settings { AreValidSettings (length solvers.old.items) store.old.settings }
-    requires plain { AreOneDimensional store.old program.now.statements.items }
-    ensures runs { Runs frac_value result (of_statement frac_value frac_limit (record { program = program.now; solvers = map name solvers.old.items }) s.now [])
-        (record { state = store.old; events = events.old.items; answers = answers.old.items })
-        (record { state = store.new; events = events.new.items; answers = answers.new.items }) }
-    ensures solvers { UnlessMemory result (Answered frac_value frac_limit name rule paths solvers.old.items solvers.new.items
-        (record { state = store.old; events = events.old.items; answers = answers.old.items })
-        (record { state = store.new; events = events.new.items; answers = answers.new.items })) }
-    ensures valid { UnlessMemory result (ShowsValidEvents frac_value frac_limit
-        (map rule solvers.old.items) answers.new.items events.old.items events.new.items) }
-    ensures settings { UnlessMemory result (AreValidSettings (length solvers.old.items) store.new.settings) }
-    ensures plain { UnlessMemory result (AreOneDimensional store.new program.now.statements.items) }
+    requires can_execute { CanExecute (length solvers.old.items) program.now.statements.items run.old.store }
+    ensures runs { Runs frac_value result
+        (of_statement frac_value frac_limit (record { program = program.now; solvers = map name solvers.old.items }) s.now [])
+        (run_view run.old) (run_view run.new) }
+    ensures leaves { UnlessMemory result (Leaves frac_value frac_limit name rule paths program.now.statements.items solvers.old.items solvers.new.items (run_view run.old) (run_view run.new)) }
 {
     let none = Binding::new(alloc);
-    step(alloc, store, program, s, &none, solvers, answers, events)
+    step(alloc, run, program, s, &none, solvers)
 }
 
 /// Lists the fault that stops a run.
@@ -198,9 +187,12 @@ impl Run {
         let outlet = Outlet::new(alloc)?;
         let store = Store::blank(alloc, 0)?;
         Ok(Run {
-            answers: Vec::new(alloc),
+            progress: Progress {
+                store,
+                answers: Vec::new(alloc),
+                events: Vec::new(alloc),
+            },
             solved: Vec::new(alloc),
-            store,
             outlet,
             remarks: String::new(alloc),
             save: Vec::new(alloc),
@@ -217,17 +209,17 @@ impl Run {
         solvers: &mut Vec<Box<dyn LpSolver>>,
     ) -> Result<bool, AllocError>
         requires few { length solvers.old.items < 2 ^ 32 }
-        requires can_execute { CanExecute program.now (length solvers.old.items) self.old.store }
+        requires can_execute { CanExecute (length solvers.old.items) program.now.statements.items self.old.progress.store }
         ensures listed { IfOk result (λ continues. ListsStatement continues program.now s.now
             (solver_views name rule paths solvers.old.items) self.old (solver_views name rule paths solvers.new.items) self.new) }
         ensures spool { OnOk result (self.new.outlet.spool ≡ self.old.outlet.spool) }
-        ensures can_execute { OnOk result (CanExecute program.now (length solvers.old.items) self.new.store) }
+        ensures can_execute { OnOk result (CanExecute (length solvers.old.items) program.now.statements.items self.new.progress.store) }
     {
-        let mut events = Vec::new(alloc);
-        let store = &mut self.store;
-        let taken = &mut self.answers;
-        let stepped = step_alone(alloc, store, program, s, solvers, taken, &mut events);
-        let answers = self.answers.as_slice();
+        self.progress.events.clear();
+        let run = &mut self.progress;
+        let stepped = step_alone(alloc, run, program, s, solvers);
+        let events = replace(&mut self.progress.events, Vec::new(alloc));
+        let answers = self.progress.answers.as_slice();
         let solved = &mut self.solved;
         let listing = &mut self.outlet.listing;
         match stepped {
@@ -256,10 +248,10 @@ impl Run {
     ) -> Result<Status, Failed>
         requires open { (H.meaning host.old).outside.writing ≡ true }
         requires few { length solvers.old.items < 2 ^ 32 }
-        requires can_execute { CanExecute program.now (length solvers.old.items) self.old.store }
+        requires can_execute { CanExecute (length solvers.old.items) program.now.statements.items self.old.progress.store }
         requires unsolved { IsUnsolved self.old }
         requires within_bound { length (pending self.old) ≤ 4096 }
-        ensures outside { ExecutesProgram result (work program.now self.old.store list.now)
+        ensures outside { ExecutesProgram result (work program.now self.old.progress.store list.now)
             (moment name rule paths (H.meaning host.old) solvers.old.items self.old)
             (moment name rule paths (H.meaning host.new) solvers.new.items self.new) }
         ensures counts { CountsWriting result (H.meaning host.old).counts (H.meaning host.new).counts }
@@ -286,11 +278,11 @@ impl Run {
     ) -> Result<Status, Failed>
         requires open { (H.meaning host.old).outside.writing ≡ true }
         requires few { length solvers.old.items < 2 ^ 32 }
-        requires can_execute { CanExecute program.now (length solvers.old.items) self.old.store }
+        requires can_execute { CanExecute (length solvers.old.items) program.now.statements.items self.old.progress.store }
         requires unsolved { IsUnsolved self.old }
         requires within_bound { length (pending self.old) ≤ 4096 }
         ensures outside { (state : State) → ExecutesProgram result
-            (work program.now self.old.store
+            (work program.now self.old.progress.store
             (statements_to_run (script_in script.entry state).saved script.entry.line program.now))
             (moment name rule paths (H.meaning host.old) solvers.old.items self.old)
             (moment name rule paths (H.meaning host.new) solvers.new.items self.new) }
@@ -301,7 +293,7 @@ impl Run {
     {
         let list = statements_of(script, program);
         let status = self.statements(alloc, host, program, list, solvers)?;
-        let given = self.answers.as_slice();
+        let given = self.progress.answers.as_slice();
         let text = self.remark(alloc, request, program, given)?;
         self.remarks = text;
         let source = script.source;
@@ -323,14 +315,15 @@ impl Run {
     ) -> Result<Status, Failed>
         requires open { (H.meaning host.old).outside.writing ≡ true }
         requires few { length solvers.old.items < 2 ^ 32 }
-        requires can_execute { CanExecute program.now (length solvers.old.items) self.old.store }
+        requires can_execute { CanExecute (length solvers.old.items) program.now.statements.items self.old.progress.store }
         requires fresh { IsFresh self.old }
         ensures outside { (state : State) → Begins (map name solvers.old.items)
-            (script_in script.entry state) program.now self.old.store → ListsBody result (scripted (script_in script.entry state))
+            (script_in script.entry state) program.now self.old.progress.store →
+            ListsBody result (scripted (script_in script.entry state))
             (moment name rule paths (H.meaning host.old) solvers.old.items self.old)
             (moment name rule paths (H.meaning host.new) solvers.new.items self.new) }
         ensures follows { (state : State) → Begins (map name solvers.old.items)
-            (script_in script.entry state) program.now self.old.store →
+            (script_in script.entry state) program.now self.old.progress.store →
             HasRest result (asked_by request.entry) (scripted (script_in script.entry state))
             (moment name rule paths (H.meaning host.old) solvers.old.items self.old)
             (moment name rule paths (H.meaning host.new) solvers.new.items self.new) }

@@ -155,11 +155,11 @@ fn checked<H: Host>(
     requires few { length solvers.old.items < 2 ^ 32 }
     requires fresh { IsFresh run.old }
     requires is_program { IsProgram frac_limit script.source.now frac_value program.now }
-    requires sound { IsSoundInput (map name solvers.old.items) (scripted (script_in script run.old.store)) }
-    ensures outside { ListsBody result (scripted (script_in script.entry run.old.store))
+    requires sound { IsSoundInput (map name solvers.old.items) (scripted (script_in script run.old.progress.store)) }
+    ensures outside { ListsBody result (scripted (script_in script.entry run.old.progress.store))
         (moment name rule paths (H.meaning host.old) solvers.old.items run.old)
         (moment name rule paths (H.meaning host.new) solvers.new.items run.new) }
-    ensures follows { HasRest result (asked_by request.entry) (scripted (script_in script.entry run.old.store))
+    ensures follows { HasRest result (asked_by request.entry) (scripted (script_in script.entry run.old.progress.store))
         (moment name rule paths (H.meaning host.old) solvers.old.items run.old)
         (moment name rule paths (H.meaning host.new) solvers.new.items run.new) }
     ensures counts { CountsWriting result (H.meaning host.old).counts (H.meaning host.new).counts }
@@ -168,7 +168,7 @@ fn checked<H: Host>(
     if has_errors(alloc, script, program, solvers.as_slice(), listing)? {
         return Ok(Status::Compile);
     }
-    begin(alloc, script, program, &mut run.store)?;
+    begin(alloc, script, program, &mut run.progress.store)?;
     run.execute(alloc, host, request, script, program, solvers)
 }
 
@@ -185,11 +185,11 @@ fn parsed<H: Host>(
     requires open { (H.meaning host.old).outside.writing ≡ true }
     requires few { length solvers.old.items < 2 ^ 32 }
     requires fresh { IsFresh run.old }
-    requires sound { IsSoundInput (map name solvers.old.items) (scripted (script_in script run.old.store)) }
-    ensures outside { ListsBody result (scripted (script_in script.entry run.old.store))
+    requires sound { IsSoundInput (map name solvers.old.items) (scripted (script_in script run.old.progress.store)) }
+    ensures outside { ListsBody result (scripted (script_in script.entry run.old.progress.store))
         (moment name rule paths (H.meaning host.old) solvers.old.items run.old)
         (moment name rule paths (H.meaning host.new) solvers.new.items run.new) }
-    ensures follows { HasRest result (asked_by request.entry) (scripted (script_in script.entry run.old.store))
+    ensures follows { HasRest result (asked_by request.entry) (scripted (script_in script.entry run.old.progress.store))
         (moment name rule paths (H.meaning host.old) solvers.old.items run.old)
         (moment name rule paths (H.meaning host.new) solvers.new.items run.new) }
     ensures counts { CountsWriting result (H.meaning host.old).counts (H.meaning host.new).counts }
@@ -217,11 +217,11 @@ fn listed<H: Host>(
     requires open { (H.meaning host.old).outside.writing ≡ true }
     requires few { length solvers.old.items < 2 ^ 32 }
     requires fresh { IsFresh run.old }
-    requires sound { IsSoundInput (map name solvers.old.items) (loaded_input_in loaded_input run.old.store) }
-    ensures outside { ListsBody result (loaded_input_in loaded_input.entry run.old.store)
+    requires sound { IsSoundInput (map name solvers.old.items) (loaded_input_in loaded_input run.old.progress.store) }
+    ensures outside { ListsBody result (loaded_input_in loaded_input.entry run.old.progress.store)
         (moment name rule paths (H.meaning host.old) solvers.old.items run.old)
         (moment name rule paths (H.meaning host.new) solvers.new.items run.new) }
-    ensures follows { HasRest result (asked_by request.entry) (loaded_input_in loaded_input.entry run.old.store)
+    ensures follows { HasRest result (asked_by request.entry) (loaded_input_in loaded_input.entry run.old.progress.store)
         (moment name rule paths (H.meaning host.old) solvers.old.items run.old)
         (moment name rule paths (H.meaning host.new) solvers.new.items run.new) }
     ensures counts { CountsWriting result (H.meaning host.old).counts (H.meaning host.new).counts }
@@ -248,17 +248,17 @@ pub(crate) fn report<H: Host>(
     requires open { (H.meaning host.old).outside.writing ≡ true }
     requires few { length solvers.old.items < 2 ^ 32 }
     requires fresh { IsFresh run.old }
-    requires sound { IsSoundInput (map name solvers.old.items) (loaded_input_in loaded_input run.old.store) }
-    ensures outside { ListsAll result (loaded_input_in loaded_input.entry run.old.store)
+    requires sound { IsSoundInput (map name solvers.old.items) (loaded_input_in loaded_input run.old.progress.store) }
+    ensures outside { ListsAll result (loaded_input_in loaded_input.entry run.old.progress.store)
         (moment name rule paths (H.meaning host.old) solvers.old.items run.old)
         (moment name rule paths (H.meaning host.new) solvers.new.items run.new) }
-    ensures follows { HasRest result (asked_by request.entry) (loaded_input_in loaded_input.entry run.old.store)
+    ensures follows { HasRest result (asked_by request.entry) (loaded_input_in loaded_input.entry run.old.progress.store)
         (moment name rule paths (H.meaning host.old) solvers.old.items run.old)
         (moment name rule paths (H.meaning host.new) solvers.new.items run.new) }
     ensures counts { CountsWriting result (H.meaning host.old).counts (H.meaning host.new).counts }
 {
     let status = listed(alloc, host, request, loaded_input, solvers, run)?;
-    let solves = run.answers.len();
+    let solves = run.progress.answers.len();
     run.outlet.end(alloc, host, status, solves)?;
     Ok(status)
 }

@@ -53,9 +53,9 @@ fn write_report<H: Host>(
 ) -> Result<Status, Failed>
     requires few { length solvers.old.items < 2 ^ 32 }
     requires fresh { IsFresh run.old }
-    requires sound { IsSoundInput (map name solvers.old.items) (loaded_input_in loaded_input run.old.store) }
+    requires sound { IsSoundInput (map name solvers.old.items) (loaded_input_in loaded_input run.old.progress.store) }
     requires named { output.now ≡ (asked_by request).output }
-    ensures outside { Reports result (asked_by request.entry) (loaded_input_in loaded_input.entry run.old.store)
+    ensures outside { Reports result (asked_by request.entry) (loaded_input_in loaded_input.entry run.old.progress.store)
         (moment name rule paths (H.meaning host.old) solvers.old.items run.old)
         (moment name rule paths (H.meaning host.new) solvers.new.items run.new) }
     ensures counts { CountsWriting result (H.meaning host.old).counts (H.meaning host.new).counts }
@@ -64,7 +64,13 @@ fn write_report<H: Host>(
     let status = report(alloc, host, request, loaded_input, solvers, run)?;
     host.close_out()?;
     write_save(host, status, request, run.save.as_slice())?;
-    push_closing(alloc, status, run.answers.len(), output, &mut run.remarks)?;
+    push_closing(
+        alloc,
+        status,
+        run.progress.answers.len(),
+        output,
+        &mut run.remarks,
+    )?;
     say_line(host, run.remarks.as_str().as_bytes())?;
     Ok(status)
 }
@@ -114,8 +120,8 @@ fn run_loaded<H: Host>(
 ) -> Result<Status, AllocError>
     requires few { length solvers.old.items < 2 ^ 32 }
     requires fresh { IsFresh run.old }
-    requires sound { IsSoundInput (map name solvers.old.items) (loaded_input_in loaded_input run.old.store) }
-    ensures ran { RunsInput result (asked_by request.entry) (loaded_input_in loaded_input.entry run.old.store)
+    requires sound { IsSoundInput (map name solvers.old.items) (loaded_input_in loaded_input run.old.progress.store) }
+    ensures ran { RunsInput result (asked_by request.entry) (loaded_input_in loaded_input.entry run.old.progress.store)
         (moment name rule paths (H.meaning host.old) solvers.old.items run.old)
         (moment name rule paths (H.meaning host.new) solvers.new.items run.new) }
     ensures counts { CountsRun result ((H.meaning host.old).counts.reliable ≡ true) (H.meaning host.old).counts (H.meaning host.new).counts }
@@ -180,7 +186,7 @@ fn run_joint<H: Host>(
         joint: true,
     };
     let loaded_input = LoadedInput::ToRun(script);
-    swap(&mut run.store, &mut saved.store);
+    swap(&mut run.progress.store, &mut saved.store);
     run_loaded(alloc, host, request, loaded_input, solvers, run)
 }
 
@@ -455,6 +461,6 @@ pub fn run<H: Host>(
 {
     let mut run = Run::new(alloc)?;
     let status = run_words(alloc, words, host, solvers, &mut run)?;
-    let answers = replace(&mut run.answers, Vec::new(alloc));
+    let answers = replace(&mut run.progress.answers, Vec::new(alloc));
     Ok(Ended { status, answers })
 }

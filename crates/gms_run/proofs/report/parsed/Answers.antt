@@ -24,13 +24,13 @@ returns-in-Ok-clause-counts g c = c.checked.ensures.counts
 pub returns-in_ok-status-in-Err-Fault-clause-outside : goal.returns-in_ok-status-in-Err-Fault-clause-outside
 returns-in_ok-status-in-Err-Fault-clause-outside g c =
     let refusal = c.in_ok-status-in-Err-Fault.ensures in
-    prepares_why c.in_ok-status-in-Err-Fault.status (solving (λ b. (goal.LpSolver-dyn g (b.vtable, b.value)).name b.value) (λ b. (goal.LpSolver-dyn g (b.vtable, b.value)).rule b.value) (λ b. (goal.LpSolver-dyn g (b.vtable, b.value)).paths b.value) c.args.solvers.now.items c.args.solvers.now.items c.args.run.now.answers.items) (g.H.Host.meaning c.args.host.now).outside (scripted (script_in c.args.script c.args.run.now.store)) c.args.run.now.outlet.spool c.args.run.now.outlet.listing c.refused.new.outlet.spool c.refused.new.outlet.listing (refusal_text (script_in c.args.script c.args.run.now.store) c.in-Err-Fault.fault)
-    refusal.status (c.requires.fresh.start.unanswered, refl) c.requires.fresh.unlisted refusal.spool (refusal.text c.args.run.now.store)
+    prepares_why c.in_ok-status-in-Err-Fault.status (solving (λ b. (goal.LpSolver-dyn g (b.vtable, b.value)).name b.value) (λ b. (goal.LpSolver-dyn g (b.vtable, b.value)).rule b.value) (λ b. (goal.LpSolver-dyn g (b.vtable, b.value)).paths b.value) c.args.solvers.now.items c.args.solvers.now.items c.args.run.now.progress.answers.items) (g.H.Host.meaning c.args.host.now).outside (scripted (script_in c.args.script c.args.run.now.progress.store)) c.args.run.now.outlet.spool c.args.run.now.outlet.listing c.refused.new.outlet.spool c.refused.new.outlet.listing (refusal_text (script_in c.args.script c.args.run.now.progress.store) c.in-Err-Fault.fault)
+    refusal.status (c.requires.fresh.start.unanswered, refl) c.requires.fresh.unlisted refusal.spool (refusal.text c.args.run.now.progress.store)
     (inl (record { fault = c.in-Err-Fault.fault; refused = subst (λ e. IsSourceRefusal frac_limit c.args.script.source.now e) c.in-Err-Fault.field-0-is c.in-Err-Fault.ensures; listing = refl }))
 
 pub returns-in_ok-status-in-Err-Fault-clause-follows : goal.returns-in_ok-status-in-Err-Fault-clause-follows
 returns-in_ok-status-in-Err-Fault-clause-follows g c =
-    nothing_follows c.in_ok-status-in-Err-Fault.status (solving (λ b. (goal.LpSolver-dyn g (b.vtable, b.value)).name b.value) (λ b. (goal.LpSolver-dyn g (b.vtable, b.value)).rule b.value) (λ b. (goal.LpSolver-dyn g (b.vtable, b.value)).paths b.value) c.args.solvers.now.items c.args.solvers.now.items c.args.run.now.answers.items) (asked_by c.args.request) (scripted (script_in c.args.script c.args.run.now.store)) (string_bytes c.args.run.now.remarks) c.args.run.now.save.items c.in_ok-status-in-Err-Fault.ensures.status c.requires.fresh.silent
+    nothing_follows c.in_ok-status-in-Err-Fault.status (solving (λ b. (goal.LpSolver-dyn g (b.vtable, b.value)).name b.value) (λ b. (goal.LpSolver-dyn g (b.vtable, b.value)).rule b.value) (λ b. (goal.LpSolver-dyn g (b.vtable, b.value)).paths b.value) c.args.solvers.now.items c.args.solvers.now.items c.args.run.now.progress.answers.items) (asked_by c.args.request) (scripted (script_in c.args.script c.args.run.now.progress.store)) (string_bytes c.args.run.now.remarks) c.args.run.now.save.items c.in_ok-status-in-Err-Fault.ensures.status c.requires.fresh.silent
 
 pub returns-in_ok-status-in-Err-Fault-clause-counts : goal.returns-in_ok-status-in-Err-Fault-clause-counts
 returns-in_ok-status-in-Err-Fault-clause-counts g c = writing_none _ _

@@ -25,7 +25,7 @@ returns-in_err-status-clause-counts g c =
 pub returns-in_err-end-clause-outside : goal.returns-in_err-end-clause-outside
 returns-in_err-end-clause-outside g c =
     let p = err_from_is_err_and c.from_residual-in_err-end.result c.from_residual-in_err-end.ensures.1 in
-    rw (p.1, p.2) (comes_err _ _ c.in_err-end.field-0.0 (prefix_ended c.in_ok-status.status (solving (λ b. (goal.LpSolver-dyn g (b.vtable, b.value)).name b.value) (λ b. (goal.LpSolver-dyn g (b.vtable, b.value)).rule b.value) (λ b. (goal.LpSolver-dyn g (b.vtable, b.value)).paths b.value) c.args.solvers.now.items c.listed.new.solvers.items c.listed.new.run.answers.items) (g.H.Host.meaning c.args.host.now).outside (g.H.Host.meaning c.listed.new.host).outside (g.H.Host.meaning c.end.new.host).outside (loaded_input_in c.args.loaded_input c.args.run.now.store) (c.listed.new.run.outlet.spool ++ c.listed.new.run.outlet.listing) c.len-solves.result (counted c.listed.new.run.answers c.len-solves.result c.len-solves.ensures) c.in_ok-status.ensures.outside) c.in_err-end.ensures.outside)
+    rw (p.1, p.2) (comes_err _ _ c.in_err-end.field-0.0 (prefix_ended c.in_ok-status.status (solving (λ b. (goal.LpSolver-dyn g (b.vtable, b.value)).name b.value) (λ b. (goal.LpSolver-dyn g (b.vtable, b.value)).rule b.value) (λ b. (goal.LpSolver-dyn g (b.vtable, b.value)).paths b.value) c.args.solvers.now.items c.listed.new.solvers.items c.listed.new.run.progress.answers.items) (g.H.Host.meaning c.args.host.now).outside (g.H.Host.meaning c.listed.new.host).outside (g.H.Host.meaning c.end.new.host).outside (loaded_input_in c.args.loaded_input c.args.run.now.progress.store) (c.listed.new.run.outlet.spool ++ c.listed.new.run.outlet.listing) c.len-solves.result (counted c.listed.new.run.progress.answers c.len-solves.result c.len-solves.ensures) c.in_ok-status.ensures.outside) c.in_err-end.ensures.outside)
 
 pub returns-in_err-end-clause-counts : goal.returns-in_err-end-clause-counts
 returns-in_err-end-clause-counts g c =
@@ -34,7 +34,7 @@ returns-in_err-end-clause-counts g c =
 
 pub returns-clause-outside : goal.returns-clause-outside
 returns-clause-outside g c =
-    lists_ended c.in_ok-status.status (solving (λ b. (goal.LpSolver-dyn g (b.vtable, b.value)).name b.value) (λ b. (goal.LpSolver-dyn g (b.vtable, b.value)).rule b.value) (λ b. (goal.LpSolver-dyn g (b.vtable, b.value)).paths b.value) c.args.solvers.now.items c.listed.new.solvers.items c.listed.new.run.answers.items) (g.H.Host.meaning c.args.host.now).outside (g.H.Host.meaning c.listed.new.host).outside (g.H.Host.meaning c.end.new.host).outside (loaded_input_in c.args.loaded_input c.args.run.now.store) (c.listed.new.run.outlet.spool ++ c.listed.new.run.outlet.listing) c.len-solves.result (counted c.listed.new.run.answers c.len-solves.result c.len-solves.ensures) c.in_ok-status.ensures.outside c.in_ok-end.ensures.outside
+    lists_ended c.in_ok-status.status (solving (λ b. (goal.LpSolver-dyn g (b.vtable, b.value)).name b.value) (λ b. (goal.LpSolver-dyn g (b.vtable, b.value)).rule b.value) (λ b. (goal.LpSolver-dyn g (b.vtable, b.value)).paths b.value) c.args.solvers.now.items c.listed.new.solvers.items c.listed.new.run.progress.answers.items) (g.H.Host.meaning c.args.host.now).outside (g.H.Host.meaning c.listed.new.host).outside (g.H.Host.meaning c.end.new.host).outside (loaded_input_in c.args.loaded_input c.args.run.now.progress.store) (c.listed.new.run.outlet.spool ++ c.listed.new.run.outlet.listing) c.len-solves.result (counted c.listed.new.run.progress.answers c.len-solves.result c.len-solves.ensures) c.in_ok-status.ensures.outside c.in_ok-end.ensures.outside
 
 pub returns-clause-counts : goal.returns-clause-counts
 returns-clause-counts g c = writing_more _ c.in_ok-status.ensures.counts (writing_done _ _ c.in_ok-end.ensures.counts)

@@ -10,7 +10,7 @@ use Rattle.gms_run.proofs.top_call.run_file.Goals as goal
 
 pub returns-clause-ran : goal.returns-clause-ran
 returns-clause-ran g c =
-    of_file c.run_source.result (solving (λ b. (goal.LpSolver-dyn g (b.vtable, b.value)).name b.value) (λ b. (goal.LpSolver-dyn g (b.vtable, b.value)).rule b.value) (λ b. (goal.LpSolver-dyn g (b.vtable, b.value)).paths b.value) c.args.solvers.now.items c.run_source.new.solvers.items c.run_source.new.run.answers.items) (g.H.Host.meaning c.args.host.now) (g.H.Host.meaning c.read_file.new.host) (g.H.Host.meaning c.run_source.new.host) (asked_by c.args.request) c.args.file.now c.in-Ok.source c.as_slice.result.now c.requires.named c.as_slice.ensures.value c.in-Ok.ensures.outside c.run_source.ensures.ran
+    of_file c.run_source.result (solving (λ b. (goal.LpSolver-dyn g (b.vtable, b.value)).name b.value) (λ b. (goal.LpSolver-dyn g (b.vtable, b.value)).rule b.value) (λ b. (goal.LpSolver-dyn g (b.vtable, b.value)).paths b.value) c.args.solvers.now.items c.run_source.new.solvers.items c.run_source.new.run.progress.answers.items) (g.H.Host.meaning c.args.host.now) (g.H.Host.meaning c.read_file.new.host) (g.H.Host.meaning c.run_source.new.host) (asked_by c.args.request) c.args.file.now c.in-Ok.source c.as_slice.result.now c.requires.named c.as_slice.ensures.value c.in-Ok.ensures.outside c.run_source.ensures.ran
 
 pub returns-clause-counts : goal.returns-clause-counts
 returns-clause-counts g c = counts_read c.in-Ok.source (IsThere (g.H.Host.meaning c.args.host.now).outside c.args.file.now) c.run_source.result _ _ _ c.in-Ok.ensures.counts c.run_source.ensures.counts
@@ -18,7 +18,7 @@ returns-clause-counts g c = counts_read c.in-Ok.source (IsThere (g.H.Host.meanin
 pub returns-in-Err-Fault-clause-ran : goal.returns-in-Err-Fault-clause-ran
 returns-in-Err-Fault-clause-ran g c =
     let counts = subst (λ e. CountsReading (failed_with (Vec ℕ Global) e) (IsThere (g.H.Host.meaning c.args.host.now).outside c.args.file.now) (g.H.Host.meaning c.args.host.now).counts (g.H.Host.meaning c.read_file.new.host).counts) c.in-Err-Fault.field-0-is c.in-Err-Fault.ensures.counts in
-    unread c.report_read_fault.result (solving (λ b. (goal.LpSolver-dyn g (b.vtable, b.value)).name b.value) (λ b. (goal.LpSolver-dyn g (b.vtable, b.value)).rule b.value) (λ b. (goal.LpSolver-dyn g (b.vtable, b.value)).paths b.value) c.args.solvers.now.items c.args.solvers.now.items c.args.run.now.answers.items) (g.H.Host.meaning c.args.host.now) (g.H.Host.meaning c.read_file.new.host) (g.H.Host.meaning c.report_read_fault.new.host) (asked_by c.args.request) c.args.file.now (subst (λ (o : Origin). IsUnreadOf (g.H.Host.meaning c.args.host.now).outside (g.H.Host.meaning c.read_file.new.host).outside o c.args.file.now) (sym c.requires.named) (refl, c.in-Err-Fault.ensures.outside)) counts c.report_read_fault.ensures.status c.report_read_fault.ensures.said (c.requires.fresh.start.unanswered, refl)
+    unread c.report_read_fault.result (solving (λ b. (goal.LpSolver-dyn g (b.vtable, b.value)).name b.value) (λ b. (goal.LpSolver-dyn g (b.vtable, b.value)).rule b.value) (λ b. (goal.LpSolver-dyn g (b.vtable, b.value)).paths b.value) c.args.solvers.now.items c.args.solvers.now.items c.args.run.now.progress.answers.items) (g.H.Host.meaning c.args.host.now) (g.H.Host.meaning c.read_file.new.host) (g.H.Host.meaning c.report_read_fault.new.host) (asked_by c.args.request) c.args.file.now (subst (λ (o : Origin). IsUnreadOf (g.H.Host.meaning c.args.host.now).outside (g.H.Host.meaning c.read_file.new.host).outside o c.args.file.now) (sym c.requires.named) (refl, c.in-Err-Fault.ensures.outside)) counts c.report_read_fault.ensures.status c.report_read_fault.ensures.said (c.requires.fresh.start.unanswered, refl)
 
 pub returns-in-Err-Fault-clause-counts : goal.returns-in-Err-Fault-clause-counts
 returns-in-Err-Fault-clause-counts g c =

@@ -25,5 +25,5 @@ run_loaded-requires-clause-sound g c =
 
 pub returns-clause-ran : goal.returns-clause-ran
 returns-clause-ran g c =
-    ran_joint c.run_loaded.result (solving (λ b. (goal.LpSolver-dyn g (b.vtable, b.value)).name b.value) (λ b. (goal.LpSolver-dyn g (b.vtable, b.value)).rule b.value) (λ b. (goal.LpSolver-dyn g (b.vtable, b.value)).paths b.value) c.args.solvers.now.items c.run_loaded.new.solvers.items c.run_loaded.new.run.answers.items) (g.H.Host.meaning c.args.host.now).outside (g.H.Host.meaning c.run_loaded.new.host).outside (asked_by c.args.request) c.as_slice-3.result.now c.args.file.now c.args.saved.now.source.items c.first_line-line.result c.swap.new.x c.args.saved.now.store
+    ran_joint c.run_loaded.result (solving (λ b. (goal.LpSolver-dyn g (b.vtable, b.value)).name b.value) (λ b. (goal.LpSolver-dyn g (b.vtable, b.value)).rule b.value) (λ b. (goal.LpSolver-dyn g (b.vtable, b.value)).paths b.value) c.args.solvers.now.items c.run_loaded.new.solvers.items c.run_loaded.new.run.progress.answers.items) (g.H.Host.meaning c.args.host.now).outside (g.H.Host.meaning c.run_loaded.new.host).outside (asked_by c.args.request) c.as_slice-3.result.now c.args.file.now c.args.saved.now.source.items c.first_line-line.result c.swap.new.x c.args.saved.now.store
     (c.as_slice-3.ensures.value ∙ c.in_ok-source.ensures ∙ ap (λ (t : List ℕ). joint_source t c.args.file.now) c.as_slice.ensures.value) (c.first_line-line.ensures ∙ ap first_line c.as_slice-2.ensures.value) c.swap.ensures.x_after c.run_loaded.ensures.ran

@@ -23,7 +23,7 @@ run_joint-requires-clause-sound g c =
 pub returns-in-Ok-clause-ran : goal.returns-in-Ok-clause-ran
 returns-in-Ok-clause-ran g c =
     let names : map (λ b. (goal.LpSolver-dyn g (b.vtable, b.value)).name b.value) c.as_slice.result.now ≡ map (λ b. (goal.LpSolver-dyn g (b.vtable, b.value)).name b.value) c.args.solvers.now.items = ap (map (λ b. (goal.LpSolver-dyn g (b.vtable, b.value)).name b.value)) c.as_slice.ensures.value in
-    of_joint c.run_joint.result (solving (λ b. (goal.LpSolver-dyn g (b.vtable, b.value)).name b.value) (λ b. (goal.LpSolver-dyn g (b.vtable, b.value)).rule b.value) (λ b. (goal.LpSolver-dyn g (b.vtable, b.value)).paths b.value) c.args.solvers.now.items c.run_joint.new.solvers.items c.run_joint.new.run.answers.items) (g.H.Host.meaning c.args.host.now).outside (g.H.Host.meaning c.run_joint.new.host).outside (asked_by c.args.request) c.args.save.items c.args.file.now c.in-Ok.saved c.in-Ok.ensures.answer.0 (subst (λ (ns : List (List ℕ)). IsRestored ns c.args.save.items c.in-Ok.saved) names c.in-Ok.ensures.answer.1) (subst (λ (ns : List (List ℕ)). GivesBack ns c.args.save.items (Ok c.in-Ok.saved)) names c.in-Ok.ensures.back) c.run_joint.ensures.ran
+    of_joint c.run_joint.result (solving (λ b. (goal.LpSolver-dyn g (b.vtable, b.value)).name b.value) (λ b. (goal.LpSolver-dyn g (b.vtable, b.value)).rule b.value) (λ b. (goal.LpSolver-dyn g (b.vtable, b.value)).paths b.value) c.args.solvers.now.items c.run_joint.new.solvers.items c.run_joint.new.run.progress.answers.items) (g.H.Host.meaning c.args.host.now).outside (g.H.Host.meaning c.run_joint.new.host).outside (asked_by c.args.request) c.args.save.items c.args.file.now c.in-Ok.saved c.in-Ok.ensures.answer.0 (subst (λ (ns : List (List ℕ)). IsRestored ns c.args.save.items c.in-Ok.saved) names c.in-Ok.ensures.answer.1) (subst (λ (ns : List (List ℕ)). GivesBack ns c.args.save.items (Ok c.in-Ok.saved)) names c.in-Ok.ensures.back) c.run_joint.ensures.ran
 
 pub run_loaded-requires-clause-sound : goal.run_loaded-requires-clause-sound
 run_loaded-requires-clause-sound g c = tt
@@ -31,7 +31,7 @@ run_loaded-requires-clause-sound g c = tt
 pub returns-in-Err-Fault-clause-ran : goal.returns-in-Err-Fault-clause-ran
 returns-in-Err-Fault-clause-ran g c =
     let names : map (λ b. (goal.LpSolver-dyn g (b.vtable, b.value)).name b.value) c.as_slice.result.now ≡ map (λ b. (goal.LpSolver-dyn g (b.vtable, b.value)).name b.value) c.args.solvers.now.items = ap (map (λ b. (goal.LpSolver-dyn g (b.vtable, b.value)).name b.value)) c.as_slice.ensures.value in
-    of_unrestored c.run_loaded.result (solving (λ b. (goal.LpSolver-dyn g (b.vtable, b.value)).name b.value) (λ b. (goal.LpSolver-dyn g (b.vtable, b.value)).rule b.value) (λ b. (goal.LpSolver-dyn g (b.vtable, b.value)).paths b.value) c.args.solvers.now.items c.run_loaded.new.solvers.items c.run_loaded.new.run.answers.items) (g.H.Host.meaning c.args.host.now).outside (g.H.Host.meaning c.run_loaded.new.host).outside (asked_by c.args.request) c.args.save.items c.args.file.now c.in-Err-Fault.fault (subst (λ (ns : List (List ℕ)). IsUnrestored ns c.args.save.items c.in-Err-Fault.fault) names (record { answer = rw c.in-Err-Fault.field-0-is at c.in-Err-Fault.ensures.answer; back = rw c.in-Err-Fault.field-0-is at c.in-Err-Fault.ensures.back })) c.run_loaded.ensures.ran
+    of_unrestored c.run_loaded.result (solving (λ b. (goal.LpSolver-dyn g (b.vtable, b.value)).name b.value) (λ b. (goal.LpSolver-dyn g (b.vtable, b.value)).rule b.value) (λ b. (goal.LpSolver-dyn g (b.vtable, b.value)).paths b.value) c.args.solvers.now.items c.run_loaded.new.solvers.items c.run_loaded.new.run.progress.answers.items) (g.H.Host.meaning c.args.host.now).outside (g.H.Host.meaning c.run_loaded.new.host).outside (asked_by c.args.request) c.args.save.items c.args.file.now c.in-Err-Fault.fault (subst (λ (ns : List (List ℕ)). IsUnrestored ns c.args.save.items c.in-Err-Fault.fault) names (record { answer = rw c.in-Err-Fault.field-0-is at c.in-Err-Fault.ensures.answer; back = rw c.in-Err-Fault.field-0-is at c.in-Err-Fault.ensures.back })) c.run_loaded.ensures.ran
 
 pub returns-in-Err-Memory-clause-counts : goal.returns-in-Err-Memory-clause-counts
 returns-in-Err-Memory-clause-counts g c = counts_nothing _ _ _

@@ -3,7 +3,8 @@ use Rattle.std.proofs.lemmas.Result.{err_from_is_err_and}
 use Rattle.gms_host.specs.Meaning.{Outside}
 use Rattle.gms_host.proofs.Counting.{writing_done, writing_more, writing_none}
 use Rattle.gms_run.specs.InnerRuns.{between, pending}
-use Rattle.gms_run.specs.InnerSteps.{CanExecute, work}
+use Rattle.gms_exec.specs.Executing.{CanExecute}
+use Rattle.gms_run.specs.InnerSteps.{work}
 use Rattle.gms_run.specs.Solving.{solver_views}
 use Rattle.gms_run.proofs.CallResults.{comes_broken, writing_failed, writing_memory}
 use Rattle.gms_run.proofs.Executing.{Executes, broke, came_done, came_stopped, come_more, come_start, executes_run, bound_after, same_many}
@@ -12,7 +13,7 @@ use Rattle.gms_run.proofs.execution.Run.statements.Goals as goal
 pub loop-s-init : goal.loop-s-init
 loop-s-init g c =
     record {
-      come = come_start (work c.args.program.now c.args.self.now.store c.args.list.now) (solver_views (λ b. (goal.LpSolver-dyn g (b.vtable, b.value)).name b.value) (λ b. (goal.LpSolver-dyn g (b.vtable, b.value)).rule b.value) (λ b. (goal.LpSolver-dyn g (b.vtable, b.value)).paths b.value) c.args.solvers.now.items) _ _ c.args.self.now.answers.items c.args.self.now.solved.items c.requires.unsolved.unanswered c.requires.unsolved.unsolved;
+      come = come_start (work c.args.program.now c.args.self.now.progress.store c.args.list.now) (solver_views (λ b. (goal.LpSolver-dyn g (b.vtable, b.value)).name b.value) (λ b. (goal.LpSolver-dyn g (b.vtable, b.value)).rule b.value) (λ b. (goal.LpSolver-dyn g (b.vtable, b.value)).paths b.value) c.args.solvers.now.items) _ _ c.args.self.now.progress.answers.items c.args.self.now.solved.items c.requires.unsolved.unanswered c.requires.unsolved.unsolved;
       within_bound = c.requires.within_bound;
       can_execute = c.requires.can_execute;
       counts = writing_none tt _;
@@ -23,7 +24,7 @@ statement-requires-clause-few g c = subst (λ n. n < 2 ^ 32) (sym (same_many (λ
 
 pub statement-requires-clause-can_execute : goal.statement-requires-clause-can_execute
 statement-requires-clause-can_execute g c =
-    subst (λ n. CanExecute c.args.program.now n c.loop-s.self.store) (sym (same_many (λ b. (goal.LpSolver-dyn g (b.vtable, b.value)).name b.value) c.loop-s.solvers.items c.args.solvers.now.items c.loop-s.invariant.come.done.extended.names)) c.loop-s.invariant.can_execute
+    subst (λ n. CanExecute n c.args.program.now.statements.items c.loop-s.self.progress.store) (sym (same_many (λ b. (goal.LpSolver-dyn g (b.vtable, b.value)).name b.value) c.loop-s.solvers.items c.args.solvers.now.items c.loop-s.invariant.come.done.extended.names)) c.loop-s.invariant.can_execute
 
 pub pass-requires : goal.pass-requires
 pass-requires g c = ap (λ (o : Outside). o.writing) c.loop-s.invariant.come.passes.written ∙ c.requires.open
@@ -40,7 +41,7 @@ returns-in_err-continues-clause-counts g c =
 
 pub returns-in_err-pass-clause-outside : goal.returns-in_err-pass-clause-outside
 returns-in_err-pass-clause-outside g c =
-    let to_run = work c.args.program.now c.args.self.now.store c.args.list.now in
+    let to_run = work c.args.program.now c.args.self.now.progress.store c.args.list.now in
     let before = (solver_views (λ b. (goal.LpSolver-dyn g (b.vtable, b.value)).name b.value) (λ b. (goal.LpSolver-dyn g (b.vtable, b.value)).rule b.value) (λ b. (goal.LpSolver-dyn g (b.vtable, b.value)).paths b.value) c.args.solvers.now.items) in
     let old = (g.H.Host.meaning c.args.host.now).outside in
     let mid = (g.H.Host.meaning c.loop-s.host).outside in
@@ -62,7 +63,7 @@ returns-in_err-pass-clause-counts g c =
 
 pub returns-then-not-continues-clause-outside : goal.returns-then-not-continues-clause-outside
 returns-then-not-continues-clause-outside g c =
-    let to_run = work c.args.program.now c.args.self.now.store c.args.list.now in
+    let to_run = work c.args.program.now c.args.self.now.progress.store c.args.list.now in
     let before = (solver_views (λ b. (goal.LpSolver-dyn g (b.vtable, b.value)).name b.value) (λ b. (goal.LpSolver-dyn g (b.vtable, b.value)).rule b.value) (λ b. (goal.LpSolver-dyn g (b.vtable, b.value)).paths b.value) c.args.solvers.now.items) in
     let old = (g.H.Host.meaning c.args.host.now).outside in
     let mid = (g.H.Host.meaning c.loop-s.host).outside in
@@ -83,7 +84,7 @@ returns-then-not-continues-clause-counts g c =
 
 pub loop-s-preserved : goal.loop-s-preserved
 loop-s-preserved g c =
-    let to_run = work c.args.program.now c.args.self.now.store c.args.list.now in
+    let to_run = work c.args.program.now c.args.self.now.progress.store c.args.list.now in
     let before = (solver_views (λ b. (goal.LpSolver-dyn g (b.vtable, b.value)).name b.value) (λ b. (goal.LpSolver-dyn g (b.vtable, b.value)).rule b.value) (λ b. (goal.LpSolver-dyn g (b.vtable, b.value)).paths b.value) c.args.solvers.now.items) in
     let old = (g.H.Host.meaning c.args.host.now).outside in
     let mid = (g.H.Host.meaning c.loop-s.host).outside in
@@ -99,13 +100,13 @@ loop-s-preserved g c =
     record {
       come = come_more to_run before old expected mid (g.H.Host.meaning c.pass.new.host).outside c.loop-s.s-index next (pending run) c.pass.new.self.spool c.pass.new.self.listing goes c.in_ok-pass.ensures.outside c.in_ok-pass.ensures.none;
       within_bound = bound_after c.pass.new.self.spool c.pass.new.self.listing c.in_ok-pass.ensures.within_bound c.in_ok-pass.ensures.none;
-      can_execute = subst (λ n. CanExecute c.args.program.now n run.store) (same_many (λ b. (goal.LpSolver-dyn g (b.vtable, b.value)).name b.value) c.loop-s.solvers.items c.args.solvers.now.items c.loop-s.invariant.come.done.extended.names) c.in_ok-continues.ensures.can_execute;
+      can_execute = subst (λ n. CanExecute n c.args.program.now.statements.items run.progress.store) (same_many (λ b. (goal.LpSolver-dyn g (b.vtable, b.value)).name b.value) c.loop-s.solvers.items c.args.solvers.now.items c.loop-s.invariant.come.done.extended.names) c.in_ok-continues.ensures.can_execute;
       counts = writing_more tt at.counts (writing_done _ tt c.in_ok-pass.ensures.counts);
     }
 
 pub returns-clause-outside : goal.returns-clause-outside
 returns-clause-outside g c =
-    came_done (work c.args.program.now c.args.self.now.store c.args.list.now) (solver_views (λ b. (goal.LpSolver-dyn g (b.vtable, b.value)).name b.value) (λ b. (goal.LpSolver-dyn g (b.vtable, b.value)).rule b.value) (λ b. (goal.LpSolver-dyn g (b.vtable, b.value)).paths b.value) c.args.solvers.now.items) (g.H.Host.meaning c.args.host.now).outside (pending c.args.self.now) (g.H.Host.meaning c.loop-s.host).outside c.loop-s.s-index
+    came_done (work c.args.program.now c.args.self.now.progress.store c.args.list.now) (solver_views (λ b. (goal.LpSolver-dyn g (b.vtable, b.value)).name b.value) (λ b. (goal.LpSolver-dyn g (b.vtable, b.value)).rule b.value) (λ b. (goal.LpSolver-dyn g (b.vtable, b.value)).paths b.value) c.args.solvers.now.items) (g.H.Host.meaning c.args.host.now).outside (pending c.args.self.now) (g.H.Host.meaning c.loop-s.host).outside c.loop-s.s-index
     (between (solver_views (λ b. (goal.LpSolver-dyn g (b.vtable, b.value)).name b.value) (λ b. (goal.LpSolver-dyn g (b.vtable, b.value)).rule b.value) (λ b. (goal.LpSolver-dyn g (b.vtable, b.value)).paths b.value) c.loop-s.solvers.items) c.loop-s.self) (pending c.loop-s.self) c.args.list.now
     c.loop-s.invariant.come c.loop-s.invariant.within_bound refl c.loop-s-test.false
 

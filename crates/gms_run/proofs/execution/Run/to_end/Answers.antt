@@ -18,7 +18,7 @@ use Rattle.gms_run.proofs.execution.Run.to_end.Goals as goal
 pub remark-requires : goal.remark-requires
 remark-requires g c =
     subst (λ (given : List (Answer Frac)). AreSomeAnswers frac_value frac_limit c.statements.new.self.solved.items given) (sym c.as_slice-given.ensures.value)
-    (ends_answered _ _ (solving (λ b. (goal.LpSolver-dyn g (b.vtable, b.value)).name b.value) (λ b. (goal.LpSolver-dyn g (b.vtable, b.value)).rule b.value) (λ b. (goal.LpSolver-dyn g (b.vtable, b.value)).paths b.value) c.args.solvers.now.items c.statements.new.solvers.items c.statements.new.self.answers.items) _ _ c.in_ok-status.ensures.outside.ends)
+    (ends_answered _ _ (solving (λ b. (goal.LpSolver-dyn g (b.vtable, b.value)).name b.value) (λ b. (goal.LpSolver-dyn g (b.vtable, b.value)).rule b.value) (λ b. (goal.LpSolver-dyn g (b.vtable, b.value)).paths b.value) c.args.solvers.now.items c.statements.new.solvers.items c.statements.new.self.progress.answers.items) _ _ c.in_ok-status.ensures.outside.ends)
 
 pub statements-requires-clause-can_execute : goal.statements-requires-clause-can_execute
 statements-requires-clause-can_execute g c = c.requires.can_execute
@@ -61,7 +61,7 @@ returns-clause-outside g c state = rw (← c.statements_of-list.ensures state) c
 
 pub returns-clause-remarks : goal.returns-clause-remarks
 returns-clause-remarks g c =
-    let told : IsRemarked (asked_by c.args.request) c.args.program.now c.statements.new.self.store c.statements.new.self.solved.items c.statements.new.self.answers.items (string_bytes c.in_ok-text.text) = rw (← c.as_slice-given.ensures.value) c.in_ok-text.ensures in
+    let told : IsRemarked (asked_by c.args.request) c.args.program.now c.statements.new.self.progress.store c.statements.new.self.solved.items c.statements.new.self.progress.answers.items (string_bytes c.in_ok-text.text) = rw (← c.as_slice-given.ensures.value) c.in_ok-text.ensures in
     told
 
 pub returns-clause-counts : goal.returns-clause-counts
