@@ -7,9 +7,9 @@ ghost use Rattle.gms_check.specs.Uses.{cardinal, controlling, ordinal};
 ghost use Rattle.gms_check.specs.declared.error.ErrorKind.TheVariants.{UnknownName};
 
 use crate::checker::Checker;
+use crate::contexts::Context;
 use crate::error::ErrorKind;
 use crate::indices::{MOST, has_unknown, has_wrong_set};
-use crate::contexts::Context;
 use gms_labels::Place;
 use gq_field::ExactField;
 use std::alloc::AllocError;

@@ -40,8 +40,11 @@ impl<'s, F: ExactField> Checker<'s, F> {
             (first_error (errors_of (known_of F.value (seen self.old)) (kind_uses at kind) ++
             declaration_errors (known_of F.value (seen self.old)) kind items.now))) }
         ensures facts { OnOk result (seen self.new
-            ≡ record (seen self.old) { first = (seen self.new).first; facts = after_declaration F.value kind
-            (is_none (seen self.new).first) (seen self.old).facts items.now }) }
+            ≡ record (seen self.old) {
+              first = (seen self.new).first;
+              facts = after_declaration F.value kind
+                  (is_none (seen self.new).first) (seen self.old).facts items.now;
+            }) }
     {
         self.require(is_continuous(kind), ErrorKind::Discrete, at);
         let given = self.declared_items(kind, items)?;
@@ -58,9 +61,12 @@ impl<'s, F: ExactField> Checker<'s, F> {
     /// given.
     fn declared_items(&mut self, kind: DeclKind, items: &[Decl<F>]) -> Result<Vec<u32>, AllocError>
         ensures noted { OnOk result (seen self.new
-            ≡ record (seen self.old) { first = sooner (seen self.old).first
-            (first_error (declaration_errors (known_of F.value (seen self.old)) kind items.now)); facts = trial_facts F.value
-            (seen self.old).solvers kind (seen self.old).facts items.now }) }
+            ≡ record (seen self.old) {
+              first = sooner (seen self.old).first
+                  (first_error (declaration_errors (known_of F.value (seen self.old)) kind items.now));
+              facts = trial_facts F.value
+                  (seen self.old).solvers kind (seen self.old).facts items.now;
+            }) }
         ensures given { IfOk result (λ given. given.items ≡ trial_names F.value (seen self.old).solvers kind (seen self.old).facts items.now) }
     {
         let mut given = Vec::new(self.alloc);

@@ -11,8 +11,8 @@ ghost use Rattle.gms_check.specs.declared.error.ErrorKind.TheVariants.{Nonlinear
 ghost use Rattle.gms_check.specs.Uses.{amount_uses, calling, control_uses, folding, logic, part_uses, reading, sets_of_control, steps, uses};
 
 use crate::checker::Checker;
-use crate::error::ErrorKind;
 use crate::contexts::Context;
+use crate::error::ErrorKind;
 use gms_ast::{Control, Expr, FoldOp, Function, Index, Named, RelOp, Suffix};
 use gms_labels::Place;
 use gq_field::ExactField;

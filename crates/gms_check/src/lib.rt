@@ -3,6 +3,7 @@
 #![tactic(auto)]
 
 mod checker;
+mod contexts;
 mod control;
 mod controlled;
 mod declaration;
@@ -15,7 +16,6 @@ mod loading;
 mod option;
 mod reference;
 mod solving;
-mod contexts;
 mod statement;
 mod target;
 

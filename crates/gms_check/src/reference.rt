@@ -7,13 +7,13 @@ ghost use Rattle.gms_check.specs.StatementUses.{index_list, show_uses};
 ghost use Rattle.gms_check.specs.Uses.{reading, showing};
 
 use crate::checker::Checker;
+use crate::contexts::Context;
 use crate::error::ErrorKind;
 use crate::indices::{
     has_uncontrolled, has_unfit_label, has_unfit_set, has_unknown, has_unordered, has_wrong_set,
     index_sets, is_wrong_count, lagged_sets,
 };
 use crate::kinds::is_variable;
-use crate::contexts::Context;
 use gms_ast::{Index, Named, Show, Suffix};
 use gms_labels::Place;
 use gq_field::ExactField;

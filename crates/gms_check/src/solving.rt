@@ -38,8 +38,11 @@ impl<'s, F: ExactField> Checker<'s, F> {
         ensures first { OnOk result ((seen self.new).first ≡
             sooner (seen self.old).first (first_error (model_errors (known_of F.value (seen self.old)) models.now))) }
         ensures facts { OnOk result
-            (seen self.new ≡ record (seen self.old) { first = (seen self.new).first; facts = with_models
-            (is_none (seen self.new).first) (with_model_names (seen self.old).facts models.now) models.now }) }
+            (seen self.new ≡ record (seen self.old) {
+              first = (seen self.new).first;
+              facts = with_models
+                  (is_none (seen self.new).first) (with_model_names (seen self.old).facts models.now) models.now;
+            }) }
     {
         self.declare_models(models)?;
         let sound = self.first.is_none();
@@ -52,9 +55,12 @@ impl<'s, F: ExactField> Checker<'s, F> {
     /// Checks models in sequence, and declares their names.
     fn declare_models(&mut self, models: &[ModelDecl]) -> Result<(), AllocError>
         ensures { OnOk result (seen self.new
-            ≡ record (seen self.old) { first = sooner (seen self.old).first
-            (first_error (model_errors (known_of F.value (seen self.old)) models.now)); facts = with_model_names
-            (seen self.old).facts models.now }) }
+            ≡ record (seen self.old) {
+              first = sooner (seen self.old).first
+                  (first_error (model_errors (known_of F.value (seen self.old)) models.now));
+              facts = with_model_names
+                  (seen self.old).facts models.now;
+            }) }
     {
         for model in models {
             self.model(model);

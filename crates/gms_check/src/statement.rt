@@ -11,8 +11,8 @@ ghost use Rattle.gms_check.specs.StatementUses.{index_list, left_uses, right_con
 ghost use Rattle.gms_check.specs.Uses.{assigning, control_uses, defining, index_sets, sets_of_control, uses};
 
 use crate::checker::Checker;
-use crate::error::CompileError;
 use crate::contexts::Context;
+use crate::error::CompileError;
 use gms_ast::{Act, Control, Expr, Index, Named, Right, Stmt, Target};
 use gms_labels::Place;
 use gq_field::ExactField;
@@ -37,8 +37,11 @@ impl<'s, F: ExactField> Checker<'s, F> {
         requires controlled { (seen self.old).controlled ≡ [] }
         ensures first { OnOk result ((seen self.new).first ≡ statement_error (known_of F.value (seen self.old)) statement.now) }
         ensures facts { OnOk result (seen self.new
-            ≡ record (seen self.old) { first = (seen self.new).first; facts = facts_after F.value
-            (seen self.old).facts statement.now.act (is_none (seen self.new).first) }) }
+            ≡ record (seen self.old) {
+              first = (seen self.new).first;
+              facts = facts_after F.value
+                  (seen self.old).facts statement.now.act (is_none (seen self.new).first);
+            }) }
     {
         match &statement.act {
             Act::Declare { kind, items } => {

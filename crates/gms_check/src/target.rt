@@ -11,10 +11,10 @@ ghost use Rattle.gms_check.specs.Contexts.{as_number};
 ghost use Rattle.gms_check.specs.Uses.{assigning, condition_uses, defining, index_sets, listing, shift_uses, shifting, uses};
 
 use crate::checker::Checker;
+use crate::contexts::{Context, may_be_assigned};
 use crate::error::ErrorKind;
 use crate::indices::index_sets;
 use crate::kinds::is_equation;
-use crate::contexts::{Context, may_be_assigned};
 use gms_ast::{Expr, Index, Named, Suffix, Target};
 use gms_labels::Place;
 use gms_store::SymbolKind;

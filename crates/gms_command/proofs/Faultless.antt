@@ -10,11 +10,11 @@ use Rattle.clap.specs.Lexer.{long_of, short_of}
 use Rattle.clap.specs.Matches.{count_text}
 use Rattle.clap.specs.Facts.{parser_of_value, unwrap_or_range}
 use Rattle.clap.specs.ValueTests.{accepts}
-use Rattle.clap.specs.Traversal.{Held, Names, Row, Rule, Step, Text, Waiting, Traversal, action_of, arg_by_id, arg_by_index, arg_by_long, arg_by_short, attached_value, count_of, finished, has_row, is_pending, most_values, next, nothing_held, reacted, settled, subcommand, subcommand_met, takes_several, takes_values, trailing, value, values_or_missing, traversal, traversal_from, traversed, word_met}
+use Rattle.clap.specs.Walk.{Held, Names, Row, Rule, Step, Text, Waiting, Walk, action_of, arg_by_id, arg_by_index, arg_by_long, arg_by_short, attached_value, count_of, finished, has_row, is_pending, most_values, next, nothing_held, reacted, settled, subcommand, subcommand_met, takes_several, takes_values, trailing, value, values_or_missing, walk, walk_from, walked, word_met}
 use Rattle.clap.specs.Simple.{Shape, built, matches_of}
-use Rattle.clap.specs.Takes.{action_passes, bundle_passes, bundle_step_passes, count_passes, default_passes, flag_word_passes, flags_pass, is_valid, level_passes, long_passes, option_passes, other_passes, positional_passes, react_passes, set_passes, settle_passes, short_passes, step_passes, takes, turn_passes, use_passes, values_pass, traversal_passes, word_passes}
+use Rattle.clap.specs.Takes.{action_passes, bundle_passes, bundle_step_passes, count_passes, default_passes, flag_word_passes, flags_pass, is_valid, level_passes, long_passes, option_passes, other_passes, positional_passes, react_passes, set_passes, settle_passes, short_passes, step_passes, takes, turn_passes, use_passes, values_pass, walk_passes, word_passes}
 use Rattle.clap.specs.Kinds.{Kinds, or_else, range_kinds, value_kinds, values_kinds}
-use Rattle.clap.specs.Faults.{action_fault, bundle_fault, bundle_step_fault, check_fault, count_fault, defaults_fault, fault_of, flag_word_fault, flags_fault, level_fault, long_fault, option_fault, other_fault, positional_fault, react_fault, repeat_fault, set_fault, settle_fault, short_fault, step_fault, stray_fault, turn_fault, use_fault, values_fault, traversal_fault, word_fault}
+use Rattle.clap.specs.Faults.{action_fault, bundle_fault, bundle_step_fault, check_fault, count_fault, defaults_fault, fault_of, flag_word_fault, flags_fault, level_fault, long_fault, option_fault, other_fault, positional_fault, react_fault, repeat_fault, set_fault, settle_fault, short_fault, step_fault, stray_fault, turn_fault, use_fault, values_fault, walk_fault, word_fault}
 use Rattle.clap.specs.declared.builder.action.ArgAction.{ArgAction}
 use Rattle.clap.specs.declared.builder.action.ArgAction.TheVariants as action
 use Rattle.clap.specs.declared.builder.value_parser.ValueParser.{ValueParser}
@@ -218,31 +218,31 @@ module _ (s : Shape) where
   step_clean position h (trailing place) e = refl
   step_clean position h (subcommand name) e = refl
 
-  turn_clean : (names : Names) (w : Traversal) (word : Text) → turn_fault s names w word ≡ [] → turn_passes s names w word ≡ true
+  turn_clean : (names : Names) (w : Walk) (word : Text) → turn_fault s names w word ≡ [] → turn_passes s names w word ≡ true
   turn_clean names w word e =
       let met = word_met s.rules names w.is_trailing w.waiting w.position word w.held in
       let reads = word_fault s names w.is_trailing w.waiting word w.held in
       let goes = step_fault s w.position met.0 met.1 in
       or_clean (is_some w.stopped) (word_passes s names w.is_trailing w.waiting word w.held && step_passes s w.position met.0 met.1) (or_else reads goes) (λ f. and_from (word_passes s names w.is_trailing w.waiting word w.held) (step_passes s w.position met.0 met.1) (word_clean names w.is_trailing w.waiting word w.held (first_none reads goes f)) (step_clean w.position met.0 met.1 (then_none reads goes f))) e
 
-  traversal_clean : (names : Names) (w : Traversal) (words : List Text) → traversal_fault s names w words ≡ [] → traversal_passes s names w words ≡ true
-  unfolding traversal_fault traversal_passes
+  traversal_clean : (names : Names) (w : Walk) (words : List Text) → walk_fault s names w words ≡ [] → walk_passes s names w words ≡ true
+  unfolding walk_fault walk_passes
   traversal_clean names w [] e = refl
   traversal_clean names w (word ∷ rest) e =
       let turns = turn_fault s names w word in
-      let others = traversal_fault s names (traversed s.rules names w word) rest in
-      and_from (turn_passes s names w word) (traversal_passes s names (traversed s.rules names w word) rest) (turn_clean names w word (first_none turns others e)) (traversal_clean names (traversed s.rules names w word) rest (then_none turns others e))
+      let others = walk_fault s names (walked s.rules names w word) rest in
+      and_from (turn_passes s names w word) (walk_passes s names (walked s.rules names w word) rest) (turn_clean names w word (first_none turns others e)) (traversal_clean names (walked s.rules names w word) rest (then_none turns others e))
 
   -- one level without subcommands, where defaults and required values are right for any arguments
-  level_clean : (h : Held) (words : List Text) → list_all default_passes s.rules ≡ true → is_valid s (finished s.rules (traversal s.rules [] h words).held) false ≡ true
+  level_clean : (h : Held) (words : List Text) → list_all default_passes s.rules ≡ true → is_valid s (finished s.rules (walk s.rules [] h words).held) false ≡ true
       → level_fault s [] h words false [] ≡ [] → level_passes s [] h words false ≡ true
   level_clean h words defaults valid e =
-      let end = (traversal s.rules [] h words).held in
-      let walks = traversal_fault s [] (traversal_from h) words in
+      let end = (walk s.rules [] h words).held in
+      let walks = walk_fault s [] (walk_from h) words in
       let settles = settle_fault s.rules s.args_override_self end in
       let last = or_else (defaults_fault (settled s.rules end).rows s.rules) (check_fault s (finished s.rules end) false) in
       let following : or_else settles last ≡ [] = then_none walks (or_else settles last) e in
-      and_from (traversal_passes s [] (traversal_from h) words) (settle_passes s.rules s.args_override_self end && (list_all default_passes s.rules && is_valid s (finished s.rules end) false)) (traversal_clean [] (traversal_from h) words (first_none walks (or_else settles last) e)) (and_from (settle_passes s.rules s.args_override_self end) (list_all default_passes s.rules && is_valid s (finished s.rules end) false) (settle_clean s.rules s.args_override_self end (first_none settles last following)) (and_from (list_all default_passes s.rules) (is_valid s (finished s.rules end) false) defaults valid))
+      and_from (walk_passes s [] (walk_from h) words) (settle_passes s.rules s.args_override_self end && (list_all default_passes s.rules && is_valid s (finished s.rules end) false)) (traversal_clean [] (walk_from h) words (first_none walks (or_else settles last) e)) (and_from (settle_passes s.rules s.args_override_self end) (list_all default_passes s.rules && is_valid s (finished s.rules end) false) (settle_clean s.rules s.args_override_self end (first_none settles last following)) (and_from (list_all default_passes s.rules) (is_valid s (finished s.rules end) false) defaults valid))
 
 -- the command accepts arguments that have no fault
 pub takes_faultless : (words : List Text) → fault_of gams25 words ≡ [] → takes gams25 words ≡ true

@@ -1,6 +1,6 @@
 mod Faultless
 mod Forms
-mod Lines
+mod PrintedLines
 mod Parts
 mod PlainWords
 mod Rows

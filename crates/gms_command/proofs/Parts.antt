@@ -7,9 +7,9 @@ use Rattle.std.specs.Option.{option_map_or}
 use Rattle.std.specs.Str.{bytes_eq}
 use Rattle.clap.proofs.OnLiterals.{clap_on_literals}
 use Rattle.clap.specs.Lexer.{long_of}
-use Rattle.clap.specs.Traversal.{Held, Row, Rule, Step, Text, Waiting, Traversal, at_row, finished, first_of, has_row, idle, long_or_other, more_values, nothing_held, option, plain_word, pushed, settled, settled_rows, short_or_plain, trailing, traversal, traversal_from, traversed, with_default, with_values, without, word_met, after_step}
+use Rattle.clap.specs.Walk.{Held, Row, Rule, Step, Text, Waiting, Walk, at_row, finished, first_of, has_row, idle, long_or_other, more_values, nothing_held, option, plain_word, pushed, settled, settled_rows, short_or_plain, trailing, walk, walk_from, walked, with_default, with_values, without, word_met, after_step}
 use Rattle.clap.specs.Simple.{Shape, built, entered}
-use Rattle.clap.specs.Takes.{step_passes, bundle_passes, built_takes, entered_passes, flag_word_passes, level_passes, settle_passes, takes, turn_passes, traversal_passes}
+use Rattle.clap.specs.Takes.{step_passes, bundle_passes, built_takes, entered_passes, flag_word_passes, level_passes, settle_passes, takes, turn_passes, walk_passes}
 use Rattle.clap.specs.declared.parser.matches.ValueSource.TheVariants.{CommandLine, DefaultValue}
 use Rattle.clap.specs.declared.builder.value_parser.Reading.TheVariants.{AsWritten}
 use Rattle.gms_command.specs.CommandLine.{Asked, asked, gams25, is_flag_given, origin_of, request_in, request_of}
@@ -109,7 +109,7 @@ place false = 1
 abbrev held : List Argument → Option Argument → Held
 held before last = record { rows = rows before; pending = pending last; skip = 0 }
 
-abbrev state : List Argument → Option Argument → Traversal
+abbrev state : List Argument → Option Argument → Walk
 state before last = record {
   held = held before last;
   waiting = idle;
@@ -161,15 +161,15 @@ passes s waiting word h plain =
 -- ---- the traversal of the arguments of parts
 
 -- the traversal passes, and so does the use of what is pending at its end
-abbrev ends : Traversal → List Text → Bool
-ends w words = traversal_passes shape [] w words && settle_passes shape.rules false (fold (traversed shape.rules []) w words).held
+abbrev ends : Walk → List Text → Bool
+ends w words = walk_passes shape [] w words && settle_passes shape.rules false (fold (walked shape.rules []) w words).held
 
-ends_after : (w : Traversal) (word : Text) (words : List Text) → ends w (word ∷ words) ≡ (turn_passes shape [] w word && ends (traversed shape.rules [] w word) words)
-unfolding traversal_passes
-ends_after w word words = and_assoc (turn_passes shape [] w word) (traversal_passes shape [] (traversed shape.rules [] w word) words) (settle_passes shape.rules false (fold (traversed shape.rules []) (traversed shape.rules [] w word) words).held)
+ends_after : (w : Walk) (word : Text) (words : List Text) → ends w (word ∷ words) ≡ (turn_passes shape [] w word && ends (walked shape.rules [] w word) words)
+unfolding walk_passes
+ends_after w word words = and_assoc (turn_passes shape [] w word) (walk_passes shape [] (walked shape.rules [] w word) words) (settle_passes shape.rules false (fold (walked shape.rules []) (walked shape.rules [] w word) words).held)
 
 -- the state after the argument of an option, whose value comes next
-abbrev named : Valued → List Row → ℕ → Traversal
+abbrev named : Valued → List Row → ℕ → Walk
 named name all position = record {
   held = record { rows = all; pending = Some (option_name name, []); skip = 0 };
   waiting = option (option_name name);
@@ -179,7 +179,7 @@ named name all position = record {
 }
 
 -- the state after the value
-abbrev valued : Argument → List Row → ℕ → Traversal
+abbrev valued : Argument → List Row → ℕ → Walk
 valued part all position = record {
   held = record { rows = all; pending = Some (part_name part, part_value part ∷ []); skip = 0 };
   waiting = idle;
@@ -192,7 +192,7 @@ abbrev dashed : Valued → Text
 dashed name = codes "--" ++ option_name name
 
 at_name : (name : Valued) (before : List Argument) (last : Option Argument)
-    → traversed shape.rules [] (state before last) (dashed name) ≡ named name (settled_rows shape.rules (pending last) (rows before)) (place (has_part (codes "file") (seen before last)))
+    → walked shape.rules [] (state before last) (dashed name) ≡ named name (settled_rows shape.rules (pending last) (rows before)) (place (has_part (codes "file") (seen before last)))
 unfolding clap_on_literals
 at_name out_option before last = refl
 at_name save_option before last = refl
@@ -207,8 +207,8 @@ name_passes restart_option before last = refl
 name_passes generate_option before last = refl
 
 at_value : (name : Valued) (value : Text) (all : List Row) (position : ℕ) → is_no_option value ≡ true
-    → traversed shape.rules [] (named name all position) value ≡ valued (option_with name value) all position
-unfolding traversed
+    → walked shape.rules [] (named name all position) value ≡ valued (option_with name value) all position
+unfolding walked
 at_value out_option value all position plain =
     ap (λ (m : Held × Step). after_step shape.rules value (named out_option all position) m.0 m.1) (met_by shape.rules (codes "out") position value (named out_option all position).held plain)
 at_value save_option value all position plain =
@@ -229,7 +229,7 @@ value_passes generate_option value all position plain =
     ap₂ (λ (p : Bool) (m : Held × Step). p && step_passes shape position m.0 m.1) (passes shape idle value (named generate_option all position).held plain) (met_by shape.rules (codes "generate") position value (named generate_option all position).held plain)
 
 -- the state before a file's name
-abbrev read_by : List Row → Option (Text × List Text) → ℕ → Traversal
+abbrev read_by : List Row → Option (Text × List Text) → ℕ → Walk
 read_by all waiting position = record {
   held = record { rows = all; pending = waiting; skip = 0 };
   waiting = idle;
@@ -243,8 +243,8 @@ never_first true one other = refl
 never_first false one other = refl
 
 at_file : (file : Text) (all : List Row) (waiting : Option (Text × List Text)) → is_no_option file ≡ true
-    → traversed shape.rules [] (read_by all waiting 1) file ≡ valued (file_name file) (settled_rows shape.rules waiting all) 2
-unfolding traversed
+    → walked shape.rules [] (read_by all waiting 1) file ≡ valued (file_name file) (settled_rows shape.rules waiting all) 2
+unfolding walked
 at_file file all waiting plain =
     ap (λ (m : Held × Step). after_step shape.rules file (read_by all waiting 1) m.0 m.1) (met shape.rules 1 file (read_by all waiting 1).held plain)
     ∙ ap (λ (h : Held). record { held = pushed (codes "file") file h; waiting = idle; position = 2; is_trailing = false; stopped = None }) (never_first (option_map_or (λ (q : Text × List Text). bytes_eq q.0 (codes "file")) waiting false) (read_by all waiting 1).held (settled shape.rules (read_by all waiting 1).held))
@@ -265,7 +265,7 @@ second_file file all waiting plain =
 
 -- the flag
 at_flag : (all : List Row) (waiting : Option (Text × List Text)) (position : ℕ)
-    → traversed shape.rules [] (read_by all waiting position) (codes "--ranges") ≡ read_by (with_values (codes "ranges") AsWritten CommandLine (codes "true" ∷ []) (without (codes "ranges") (settled_rows shape.rules waiting all))) None position
+    → walked shape.rules [] (read_by all waiting position) (codes "--ranges") ≡ read_by (with_values (codes "ranges") AsWritten CommandLine (codes "true" ∷ []) (without (codes "ranges") (settled_rows shape.rules waiting all))) None position
 unfolding clap_on_literals
 at_flag all waiting position = refl
 
@@ -293,21 +293,21 @@ after_file : (file : Text) (all : List Argument) → 2 ≡ place (has_part (code
 after_file file all = sym (ap place (given_append (codes "file") all (file_name file ∷ []) ∙ or-true (has_part (codes "file") all)))
 
 option_onward : (name : Valued) (value : Text) (before : List Argument) (last : Option Argument) → Waits last → is_no_option value ≡ true → is_new before last ≡ true
-    → traversed shape.rules [] (traversed shape.rules [] (state before last) (dashed name)) value ≡ state (seen before last) (Some (option_with name value))
+    → walked shape.rules [] (walked shape.rules [] (state before last) (dashed name)) value ≡ state (seen before last) (Some (option_with name value))
 option_onward name value before last waits plain new =
-    ap (λ (w : Traversal). traversed shape.rules [] w value) (at_name name before last)
+    ap (λ (w : Walk). walked shape.rules [] w value) (at_name name before last)
     ∙ at_value name value (settled_rows shape.rules (pending last) (rows before)) (place (has_part (codes "file") (seen before last))) plain
     ∙ ap₂ (λ (all : List Row) (k : ℕ). valued (option_with name value) all k) (settled_as before last waits new) (kept_by_option name value (seen before last))
 
 file_onward : (file : Text) (before : List Argument) (last : Option Argument) → Waits last → is_no_option file ≡ true → is_new before last ≡ true → has_part (codes "file") (seen before last) ≡ false
-    → traversed shape.rules [] (state before last) file ≡ state (seen before last) (Some (file_name file))
+    → walked shape.rules [] (state before last) file ≡ state (seen before last) (Some (file_name file))
 file_onward file before last waits plain new none =
-    ap (λ (b : Bool). traversed shape.rules [] (read_by (rows before) (pending last) (place b)) file) none
+    ap (λ (b : Bool). walked shape.rules [] (read_by (rows before) (pending last) (place b)) file) none
     ∙ at_file file (rows before) (pending last) plain
     ∙ ap₂ (λ (all : List Row) (k : ℕ). valued (file_name file) all k) (settled_as before last waits new) (after_file file (seen before last))
 
 flag_onward : (before : List Argument) (last : Option Argument) → Waits last → is_new before last ≡ true → not (has_part (codes "ranges") (seen before last)) ≡ true
-    → traversed shape.rules [] (state before last) (codes "--ranges") ≡ state (seen before last ++ ranges_flag ∷ []) None
+    → walked shape.rules [] (state before last) (codes "--ranges") ≡ state (seen before last ++ ranges_flag ∷ []) None
 flag_onward before last waits new first =
     at_flag (rows before) (pending last) (place (has_part (codes "file") (seen before last)))
     ∙ ap₂ (λ (all : List Row) (k : ℕ). read_by all None k) (ap (λ (all : List Row). with_values (codes "ranges") AsWritten CommandLine (codes "true" ∷ []) (without (codes "ranges") all)) (settled_as before last waits new) ∙ gains (seen before last) ranges_flag first) (kept_by_flag (seen before last))
@@ -316,31 +316,31 @@ flag_onward before last waits new first =
 
 are_accepted : (parts before : List Argument) (last : Option Argument) → Waits last → are_plain parts ≡ true
     → ends (state before last) (all_words parts) ≡ (is_new before last && differ_from (seen before last) parts)
-unfolding traversal_passes
+unfolding walk_passes
 are_accepted [] before last waits plain = settles before last waits ∙ sym (and-true (is_new before last))
 are_accepted (option_with name value ∷ parts) before last waits plain =
     let split = and_parts (is_no_option value) (are_plain parts) plain in
     let middle = named name (settled_rows shape.rules (pending last) (rows before)) (place (has_part (codes "file") (seen before last))) in
     ends_after (state before last) (dashed name) (value ∷ all_words parts)
-    ∙ ap₂ (λ (t : Bool) (w : Traversal). t && ends w (value ∷ all_words parts)) (name_passes name before last ∙ and-true _ ∙ settles before last waits) (at_name name before last)
+    ∙ ap₂ (λ (t : Bool) (w : Walk). t && ends w (value ∷ all_words parts)) (name_passes name before last ∙ and-true _ ∙ settles before last waits) (at_name name before last)
     ∙ guarded (is_new before last) (ends middle (value ∷ all_words parts)) (differ_from (seen before last) (option_with name value ∷ parts))
     (λ new.
     ends_after middle value (all_words parts)
-    ∙ ap (λ (t : Bool). t && ends (traversed shape.rules [] middle value) (all_words parts)) (value_passes name value _ _ split.0)
-    ∙ ap (λ (w : Traversal). ends (traversed shape.rules [] w value) (all_words parts)) (sym (at_name name before last))
-    ∙ ap (λ (w : Traversal). ends w (all_words parts)) (option_onward name value before last waits split.0 new)
+    ∙ ap (λ (t : Bool). t && ends (walked shape.rules [] middle value) (all_words parts)) (value_passes name value _ _ split.0)
+    ∙ ap (λ (w : Walk). ends (walked shape.rules [] w value) (all_words parts)) (sym (at_name name before last))
+    ∙ ap (λ (w : Walk). ends w (all_words parts)) (option_onward name value before last waits split.0 new)
     ∙ are_accepted parts (seen before last) (Some (option_with name value)) tt split.1)
 are_accepted (ranges_flag ∷ parts) before last waits plain =
     let now = seen before last in
     ends_after (state before last) (codes "--ranges") (all_words parts)
-    ∙ ap (λ (t : Bool). t && ends (traversed shape.rules [] (state before last) (codes "--ranges")) (all_words parts)) (flag_passes (rows before) (pending last) (place (has_part (codes "file") now)) ∙ and-true _)
+    ∙ ap (λ (t : Bool). t && ends (walked shape.rules [] (state before last) (codes "--ranges")) (all_words parts)) (flag_passes (rows before) (pending last) (place (has_part (codes "file") now)) ∙ and-true _)
     ∙ and_assoc (settle_passes shape.rules false (held before last)) _ _
-    ∙ ap (λ (t : Bool). t && (((not (has_row (codes "ranges") (settled_rows shape.rules (pending last) (rows before))) || false) && true) && ends (traversed shape.rules [] (state before last) (codes "--ranges")) (all_words parts))) (settles before last waits)
+    ∙ ap (λ (t : Bool). t && (((not (has_row (codes "ranges") (settled_rows shape.rules (pending last) (rows before))) || false) && true) && ends (walked shape.rules [] (state before last) (codes "--ranges")) (all_words parts))) (settles before last waits)
     ∙ guarded (is_new before last) _ (differ_from now (ranges_flag ∷ parts))
     (λ new.
-    ap (λ (t : Bool). t && ends (traversed shape.rules [] (state before last) (codes "--ranges")) (all_words parts)) (once _ ∙ ap (λ (all : List Row). not (has_row (codes "ranges") all)) (settled_as before last waits new) ∙ ap (λ (b : Bool). not b) (given_row (codes "ranges") now))
+    ap (λ (t : Bool). t && ends (walked shape.rules [] (state before last) (codes "--ranges")) (all_words parts)) (once _ ∙ ap (λ (all : List Row). not (has_row (codes "ranges") all)) (settled_as before last waits new) ∙ ap (λ (b : Bool). not b) (given_row (codes "ranges") now))
     ∙ guarded (not (has_part (codes "ranges") now)) _ (differ_from (now ++ ranges_flag ∷ []) parts)
-    (λ first. ap (λ (w : Traversal). ends w (all_words parts)) (flag_onward before last waits new first) ∙ are_accepted parts (now ++ ranges_flag ∷ []) None tt (and_parts true (are_plain parts) plain).1))
+    (λ first. ap (λ (w : Walk). ends w (all_words parts)) (flag_onward before last waits new first) ∙ are_accepted parts (now ++ ranges_flag ∷ []) None tt (and_parts true (are_plain parts) plain).1))
 are_accepted (file_name file ∷ parts) before last waits plain =
     let split = and_parts (is_no_option file) (are_plain parts) plain in
     by_test split.0 (are_accepted parts (seen before last) (Some (file_name file)) tt split.1) (has_part (codes "file") (seen before last)) refl
@@ -349,42 +349,42 @@ are_accepted (file_name file ∷ parts) before last waits plain =
         → ends (state before last) (file ∷ all_words parts) ≡ (is_new before last && differ_from (seen before last) (file_name file ∷ parts))
     by_test fine rest true there =
         ends_after (state before last) file (all_words parts)
-        ∙ ap (λ (t : Bool). t && ends (traversed shape.rules [] (state before last) file) (all_words parts)) (ap (λ (b : Bool). turn_passes shape [] (read_by (rows before) (pending last) (place b)) file) there ∙ second_file file (rows before) (pending last) fine)
+        ∙ ap (λ (t : Bool). t && ends (walked shape.rules [] (state before last) file) (all_words parts)) (ap (λ (b : Bool). turn_passes shape [] (read_by (rows before) (pending last) (place b)) file) there ∙ second_file file (rows before) (pending last) fine)
         ∙ sym (ap (λ (b : Bool). is_new before last && (not b && differ_from (seen before last ++ file_name file ∷ []) parts)) there ∙ and-false (is_new before last))
     by_test fine rest false none =
         ends_after (state before last) file (all_words parts)
-        ∙ ap (λ (t : Bool). t && ends (traversed shape.rules [] (state before last) file) (all_words parts)) (ap (λ (b : Bool). turn_passes shape [] (read_by (rows before) (pending last) (place b)) file) none ∙ file_passes file (rows before) (pending last) fine ∙ settles before last waits)
-        ∙ guarded (is_new before last) (ends (traversed shape.rules [] (state before last) file) (all_words parts)) (differ_from (seen before last) (file_name file ∷ parts))
-        (λ new. ap (λ (w : Traversal). ends w (all_words parts)) (file_onward file before last waits fine new none) ∙ rest)
+        ∙ ap (λ (t : Bool). t && ends (walked shape.rules [] (state before last) file) (all_words parts)) (ap (λ (b : Bool). turn_passes shape [] (read_by (rows before) (pending last) (place b)) file) none ∙ file_passes file (rows before) (pending last) fine ∙ settles before last waits)
+        ∙ guarded (is_new before last) (ends (walked shape.rules [] (state before last) file) (all_words parts)) (differ_from (seen before last) (file_name file ∷ parts))
+        (λ new. ap (λ (w : Walk). ends w (all_words parts)) (file_onward file before last waits fine new none) ∙ rest)
 
 append_nothing : (parts : List Argument) → parts ++ [] ≡ parts
 append_nothing [] = refl
 append_nothing (part ∷ parts) = ap (λ (rest : List Argument). part ∷ rest) (append_nothing parts)
 
-abbrev settled_at : Traversal → List Row
+abbrev settled_at : Walk → List Row
 settled_at w = settled_rows shape.rules w.held.pending w.held.rows
 
 -- the rows that they leave
 rows_left : (parts before : List Argument) (last : Option Argument) → Waits last → are_plain parts ≡ true → (is_new before last && differ_from (seen before last) parts) ≡ true
-    → settled_at (fold (traversed shape.rules []) (state before last) (all_words parts)) ≡ rows (seen before last ++ parts)
+    → settled_at (fold (walked shape.rules []) (state before last) (all_words parts)) ≡ rows (seen before last ++ parts)
 rows_left [] before last waits plain e = settled_as before last waits (and_parts (is_new before last) true e).0 ∙ sym (ap rows (append_nothing (seen before last)))
 rows_left (option_with name value ∷ parts) before last waits plain e =
     let split = and_parts (is_no_option value) (are_plain parts) plain in
     let fine = and_parts (is_new before last) (differ_from (seen before last) (option_with name value ∷ parts)) e in
-    ap (λ (w : Traversal). settled_at (fold (traversed shape.rules []) w (all_words parts))) (option_onward name value before last waits split.0 fine.0)
+    ap (λ (w : Walk). settled_at (fold (walked shape.rules []) w (all_words parts))) (option_onward name value before last waits split.0 fine.0)
     ∙ rows_left parts (seen before last) (Some (option_with name value)) tt split.1 fine.1
     ∙ ap rows (append_assoc (seen before last) (option_with name value ∷ []) parts)
 rows_left (ranges_flag ∷ parts) before last waits plain e =
     let fine = and_parts (is_new before last) (differ_from (seen before last) (ranges_flag ∷ parts)) e in
     let more = and_parts (not (has_part (codes "ranges") (seen before last))) (differ_from (seen before last ++ ranges_flag ∷ []) parts) fine.1 in
-    ap (λ (w : Traversal). settled_at (fold (traversed shape.rules []) w (all_words parts))) (flag_onward before last waits fine.0 more.0)
+    ap (λ (w : Walk). settled_at (fold (walked shape.rules []) w (all_words parts))) (flag_onward before last waits fine.0 more.0)
     ∙ rows_left parts (seen before last ++ ranges_flag ∷ []) None tt plain more.1
     ∙ ap rows (append_assoc (seen before last) (ranges_flag ∷ []) parts)
 rows_left (file_name file ∷ parts) before last waits plain e =
     let split = and_parts (is_no_option file) (are_plain parts) plain in
     let fine = and_parts (is_new before last) (differ_from (seen before last) (file_name file ∷ parts)) e in
     let more = and_parts (not (has_part (codes "file") (seen before last))) (differ_from (seen before last ++ file_name file ∷ []) parts) fine.1 in
-    ap (λ (w : Traversal). settled_at (fold (traversed shape.rules []) w (all_words parts))) (file_onward file before last waits split.0 fine.0 (not-true (has_part (codes "file") (seen before last)) more.0))
+    ap (λ (w : Walk). settled_at (fold (walked shape.rules []) w (all_words parts))) (file_onward file before last waits split.0 fine.0 (not-true (has_part (codes "file") (seen before last)) more.0))
     ∙ rows_left parts (seen before last) (Some (file_name file)) tt split.1 fine.1
     ∙ ap rows (append_assoc (seen before last) (file_name file ∷ []) parts)
 
@@ -489,17 +489,17 @@ by_rows parts = by_test (has_part (codes "ranges") parts) refl
 
 -- a command without subcommands accepts what its own level accepts
 leaf_test : (words : List Text) → built_takes (built gams25) nothing_held words ≡ level_passes shape [] nothing_held words false
-leaf_test words = by_stop (traversal shape.rules [] nothing_held words).stopped
+leaf_test words = by_stop (walk shape.rules [] nothing_held words).stopped
   where
     by_stop : (stop : Option (Text × List Text))
         → (entered_passes (built gams25) stop && level_passes shape [] nothing_held words (is_some (entered (built gams25) stop))) ≡ level_passes shape [] nothing_held words false
     by_stop None = refl
     by_stop (Some p) = refl
 
-takes_when : (words : List Text) → takes gams25 words ≡ ends (traversal_from nothing_held) words
+takes_when : (words : List Text) → takes gams25 words ≡ ends (walk_from nothing_held) words
 takes_when words =
     leaf_test words
-    ∙ ap (λ (b : Bool). traversal_passes shape [] (traversal_from nothing_held) words && b) (and-true (settle_passes shape.rules false (traversal shape.rules [] nothing_held words).held))
+    ∙ ap (λ (b : Bool). walk_passes shape [] (walk_from nothing_held) words && b) (and-true (settle_passes shape.rules false (walk shape.rules [] nothing_held words).held))
 
 pub by_parts : IsByParts
 by_parts parts plain = by_test (are_once parts) refl
@@ -509,11 +509,11 @@ by_parts parts plain = by_test (are_once parts) refl
 
     by_test : (b : Bool) → are_once parts ≡ b → request_of (all_words parts) ≡ (if are_once parts then requested parts else None)
     by_test true fine =
-        ap (λ (t : Bool). option_and_then request_in (if t then Some (finished shape.rules (traversal shape.rules [] nothing_held (all_words parts)).held) else None)) (taken ∙ fine)
+        ap (λ (t : Bool). option_and_then request_in (if t then Some (finished shape.rules (walk shape.rules [] nothing_held (all_words parts)).held) else None)) (taken ∙ fine)
         ∙ ap (λ (all : List Row). request_in (fold with_default all shape.rules)) (rows_left parts [] None tt plain fine)
         ∙ ap request_in (defaults (rows parts))
         ∙ by_rows parts
         ∙ sym (ap (λ (t : Bool). if t then requested parts else None) fine)
     by_test false twice =
-        ap (λ (t : Bool). option_and_then request_in (if t then Some (finished shape.rules (traversal shape.rules [] nothing_held (all_words parts)).held) else None)) (taken ∙ twice)
+        ap (λ (t : Bool). option_and_then request_in (if t then Some (finished shape.rules (walk shape.rules [] nothing_held (all_words parts)).held) else None)) (taken ∙ twice)
         ∙ sym (ap (λ (t : Bool). if t then requested parts else None) twice)

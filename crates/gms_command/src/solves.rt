@@ -9,8 +9,8 @@ ghost use Rattle.lp_range.specs.Ranges.{IsOptimum, LeadTo, rights, costs};
 ghost use Rattle.gms_command.specs.RangeTexts.{spans_text, SaysAnswer, SaysRanges};
 ghost use Rattle.gms_command.specs.Answered.{IsSomeAnswer, AreSomeAnswers};
 
-use crate::lines::{push_costs, push_rights};
 use crate::command_line::ranges_line;
+use crate::lines::{push_costs, push_rights};
 use gms_labels::Labels;
 use gq_field::ExactField;
 use lp_core::{Answer, End, Lp};

@@ -240,7 +240,11 @@ impl Scan {
         ensures bound { result.bound ≡ second.bound }
         ensures traversal { result.traversal ≡ later_traversal self.traversal second.traversal }
     {
-        let Scan { safe, bound, traversal } = second;
+        let Scan {
+            safe,
+            bound,
+            traversal,
+        } = second;
         match traversal {
             Some(traversal) => Scan {
                 safe,

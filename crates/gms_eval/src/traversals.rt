@@ -140,7 +140,13 @@ fn spread<F: ExactField>(
 {
     let mut more = found;
     for number in 0..traversal.spread {
-        let rest = element(alloc, store, traversal.free.as_slice(), traversal.spread, number)?;
+        let rest = element(
+            alloc,
+            store,
+            traversal.free.as_slice(),
+            traversal.spread,
+            number,
+        )?;
         let element = picked(alloc, tuple, &rest, traversal.places.as_slice())?;
         if !is_element(alloc, store, sets, &element)? {
             continue;

@@ -98,7 +98,11 @@ impl<
         let (amount, next) = self.lag_amount(tables, following)?;
         let amount = Box::new(self.reader.alloc, amount)?;
         Ok((
-            (lag_op_of(operator.kind), self.reader.place(following), amount),
+            (
+                lag_op_of(operator.kind),
+                self.reader.place(following),
+                amount,
+            ),
             next,
         ))
     }

@@ -2,8 +2,8 @@
 ghost use Rattle.std.specs.Prelude.{◌≡◌};
 ghost use Rattle.gms_grammar.specs.Keywords.{statement_words, kind_among};
 
-use crate::terminal::Terminal;
 use crate::line::is_among;
+use crate::terminal::Terminal;
 
 /// A kind of words that begin a statement, and its words.
 struct Keyword {

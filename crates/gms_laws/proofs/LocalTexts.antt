@@ -14,14 +14,14 @@ use Rattle.gms_lex.specs.TokenTexts.{token_text, unquoted}
 use Rattle.gms_grammar.specs.declared.terminal.Terminal.{Terminal}
 use Rattle.gms_grammar.specs.declared.terminal.Terminal.TheVariants as terminal
 use Rattle.gms_grammar.specs.Grammar.{DerivationTree, leaf, pair, left, right, none, some, more, node, yield}
+use Rattle.gms_grammar.specs.Alternatives.{keyword_parameter}
 use Rattle.gms_grammar.specs.Terminals.{is}
 use Rattle.gms_set.specs.Ranges.{is_range}
 use Rattle.gms_expressions.specs.Valuations.{number_meant}
 use Rattle.gms_expressions.specs.ExpressionTrees.{token_of, terminal_in, first_in, second_in, inside, place_in}
 use Rattle.gms_parse.specs.DataLists.{listed_in, each_in, optional_in, concatenated, any_true, signed_value, number_of_label, range_labels, ranges_in_part, parsed_value, parameter_item, parameter_items}
-use Rattle.gms_parse.specs.Declarations.{items_in, data_in, set_act, scalar_act, table_act, variable_act, equation_act, model_act}
-use Rattle.gms_parse.specs.Statements.{alias_act}
-use Rattle.gms_parse.specs.Programs.{display_or_other, either, keyword_act, keyword_statements, named_first, segment, segments, statements_of}
+use Rattle.gms_parse.specs.Declarations.{items_in, data_in}
+use Rattle.gms_parse.specs.Programs.{keyword_act, keyword_statements, named_first, segment, segments, statements_of}
 
 abbrev Derivation : Type 0
 Derivation = DerivationTree (Terminal × Token)
@@ -147,18 +147,25 @@ module _ (source : List ℕ) (names labels : List (List ℕ)) where
 
   -- a statement that begins with a keyword, where parameters are read so
   abbrev keyword_by : (Derivation → Act Rational) → Derivation → Act Rational
-  keyword_by parameters (node tree) =
-      either source names labels (set_act source names labels) (
-      either source names labels parameters (
-      either source names labels (scalar_act source names labels) (
-      either source names labels (table_act source names labels) (
-      either source names labels (variable_act source names labels) (
-      either source names labels (equation_act source names labels) (
-      either source names labels (model_act source names labels) (
-      either source names labels (alias_act source names labels) (display_or_other source names labels)))))))) tree
-  keyword_by parameters _ = displays []
+  keyword_by parameters (node (keyword_parameter tree)) = parameters tree
+  keyword_by parameters tree = keyword_act source names labels tree
 
   same_keyword : (tree : Derivation) → keyword_by (parameters_by (parameter_items source labels)) tree ≡ keyword_act source names labels tree
+  same_keyword (node (right (left a))) = refl
+  same_keyword (node (right (leaf t))) = refl
+  same_keyword (node (right (pair a b))) = refl
+  same_keyword (node (right (right a))) = refl
+  same_keyword (node (right none)) = refl
+  same_keyword (node (right (some a))) = refl
+  same_keyword (node (right (more a b))) = refl
+  same_keyword (node (right (node a))) = refl
+  same_keyword (node (leaf t)) = refl
+  same_keyword (node (pair a b)) = refl
+  same_keyword (node (left a)) = refl
+  same_keyword (node none) = refl
+  same_keyword (node (some a)) = refl
+  same_keyword (node (more a b)) = refl
+  same_keyword (node (node a)) = refl
   same_keyword (leaf t) = refl
   same_keyword (pair a b) = refl
   same_keyword (left a) = refl
@@ -166,7 +173,6 @@ module _ (source : List ℕ) (names labels : List (List ℕ)) where
   same_keyword none = refl
   same_keyword (some a) = refl
   same_keyword (more a b) = refl
-  same_keyword (node a) = refl
 
   module _ (act : Derivation → Act Rational) where
     abbrev keywords_by : Derivation → Statements Rational

@@ -381,4 +381,4 @@ module _ {F : Type 0} (value : F → Number) (program : Program F) (solvers : Li
       let c = clean-in o in
       let known = known_after value program solvers (sound before) in
       let read = sound-use known (reading (after_steps steps (in_role role)) c.controlled name suffix.None indices) c.clean.0 in
-      set-role role (set-steps steps (in_role role) (sym (ap (λ (k : SymbolKind). may_occur (after_steps steps (in_role role)) k suffix.None) is) ∙ read.is_placed))
+      set-role role (set-steps steps (in_role role) (sym (ap (λ (k : SymbolKind). may_occur (after_steps steps (in_role role)) k suffix.None) is) ∙ read.occurs))

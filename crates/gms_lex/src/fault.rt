@@ -2,8 +2,8 @@
 ghost use Rattle.std.specs.Prelude.{◌≡◌};
 ghost use Rattle.gms_lex.specs.declared.fault.LexFaultOrMemory.TheVariants.{Memory};
 
-use gms_labels::Place;
 use gms_grammar::LexError;
+use gms_labels::Place;
 use std::alloc::{AllocError, AllocFailed};
 use thiserror::Error;
 

@@ -9,8 +9,8 @@ use crate::mode_change::mode_after;
 use crate::piece::piece_at;
 use crate::place::{SOURCE_START, place_after_bytes, place_of};
 use crate::token::Token;
-use gms_labels::Place;
 use gms_grammar::{ByteFault, Kind, Piece, code_text};
+use gms_labels::Place;
 use std::alloc::{AllocError, Global};
 
 /// How many bytes a source may have.

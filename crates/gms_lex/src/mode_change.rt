@@ -113,7 +113,11 @@ fn after_element_symbol(shape: Shape, depth: u32, symbol: Sym) -> Mode
         Sym::RightParen => Mode::Element(shape, depth.saturating_sub(1), Stage::After),
         Sym::Comma => after_comma(shape, depth),
         Sym::Slash => Mode::Rest(shape),
-        Sym::Dot | Sym::DotDot | Sym::Star | Sym::Power => Mode::Element(shape, depth, Stage::Expected),
+        Sym::Dot | Sym::DotDot | Sym::Star | Sym::Power => Mode::Element(
+            shape,
+            depth,
+            Stage::Expected,
+        ),
         _ => after_element(shape, depth),
     }
 }

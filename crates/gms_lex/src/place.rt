@@ -3,8 +3,8 @@ ghost use Rattle.std.specs.Prelude.{◌≡◌, ◌<◌, ◌≤◌, ◌+◌, ◌*
 ghost use Rattle.gms_lex.specs.Places.{place_after, place_after_bytes, place_of_byte};
 ghost use Rattle.gms_lex.specs.Tokens.{most_source_bytes};
 
-use gms_labels::Place;
 use gms_grammar::column_after;
+use gms_labels::Place;
 
 /// Where a source begins.
 pub(crate) const SOURCE_START: Place = Place { line: 1, column: 1 };

@@ -2,8 +2,8 @@
 ghost use Rattle.std.specs.Prelude.{◌≡◌};
 ghost use Rattle.gms_lex.specs.TokenTexts.{unquoted};
 
-use gms_labels::Place;
 use gms_grammar::Kind;
+use gms_labels::Place;
 
 /// A token: what it is, which bytes of the source it takes, and its place.
 #[derive(Clone, Copy)]

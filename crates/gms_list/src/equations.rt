@@ -121,7 +121,7 @@ impl Listing {
         ensures { Appends result self.old self.new (word.now ++ label_in_table p.now.names name ++ following.now) }
     {
         let text = text_of(&p.names, name);
-        let line = format!(in alloc; "{word}{text}{behind}")?;
+        let line = format!(in alloc; "{word}{text}{following}")?;
         self.push(line.as_str())
     }
 

@@ -175,7 +175,9 @@ impl<'s> Reader<'s> {
         let (target, next) = self.target(tables, at)?;
         let (condition, next) = self.condition(tables, next)?;
         match self.take_if(Terminal::DotDot, next) {
-            Some((_, following)) if is_plain(&target) => self.sides(tables, target, condition, following),
+            Some((_, following)) if is_plain(&target) => self.sides(
+                tables, target, condition, following,
+            ),
             _ => self.right_side(tables, target, condition, next),
         }
     }

@@ -69,8 +69,13 @@ fn signed<F: ExactField>(minus: bool, value: Ext<F>) -> Ext<F>
 /// The item of data that an element is, with a value or without.
 fn item_of<F: ExactField>(element: Element, value: Option<Ext<F>>) -> Item<F>
     ensures { item_in F.value result ≡
-        record { at = element.at; parts = element.parts.items; value = option_map
-        (extended_in F.value) value; bad_range = element.bad_range } }
+        record {
+          at = element.at;
+          parts = element.parts.items;
+          value = option_map
+              (extended_in F.value) value;
+          bad_range = element.bad_range;
+        } }
 {
     Item {
         at: element.at,

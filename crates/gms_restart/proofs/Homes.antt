@@ -12,6 +12,8 @@ use Rattle.gms_check.proofs.Growing.{IsAfter}
 use Rattle.gms_save_text.specs.Validity.{fits_position, fits_domain}
 use Rattle.gms_run_laws.specs.LastStates.{IsFixedSet}
 
+-- each member of a content is a tuple with data
+pub members-given : (c : Content) (t : List ℕ) → has (members_in c) t ≡ true → has (given_in c) t ≡ true
 members-given undeclared t there = absurd (cc)
 members-given (alias_of base) t there = absurd (cc)
 members-given (set_of members) t there = there

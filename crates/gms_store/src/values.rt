@@ -21,7 +21,10 @@ pub(crate) struct Values<X> {
 // Written out, so that it is proved here alone, and not in each crate that lets one go.
 impl<X: Drop> Drop for Values<X> {
     fn drop(self) {
-        let Self { tree: _, following: _ } = self;
+        let Self {
+            tree: _,
+            following: _,
+        } = self;
     }
 }
 

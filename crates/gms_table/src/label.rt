@@ -11,8 +11,8 @@ ghost use Rattle.gms_table.specs.InnerShown.{seen};
 
 use crate::fault::{TableError, TableFaultOrMemory};
 use crate::word::Word;
+use gms_grammar::{Separator, field_length, label_length};
 use gms_labels::{LabelFault, Labels, MOST_BYTES};
-use gms_grammar::{Separator, label_length, field_length};
 use std::alloc::{AllocError, Global};
 
 /// Whether all bytes are of ASCII.

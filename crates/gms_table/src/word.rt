@@ -6,8 +6,8 @@ ghost use Rattle.gms_table.specs.Words.{word_of, words_of};
 ghost use Rattle.gms_table.specs.InnerShown.{seen, seen_all, AreSpaced};
 
 use crate::fault::{TableError, TableFault, TableFaultOrMemory};
-use gms_labels::Place;
 use gms_grammar::{Separator, column_after, field_length};
+use gms_labels::Place;
 use std::alloc::{AllocError, Global};
 
 /// A word of a line.

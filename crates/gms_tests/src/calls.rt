@@ -87,7 +87,7 @@ fn operations_on_sets(rt: HostRuntime) {
     for (first, sign, second, expected) in &SETS {
         assert!(rt;
             members(&rt, rt.alloc(), first, *sign, second).as_str() == *expected,
-            "{due}"
+            "{expected}"
         );
     }
 }
@@ -184,7 +184,7 @@ fn sums_and_differences_of_forms(rt: HostRuntime) {
     for (first, sign, second, expected) in &FORMS {
         assert!(rt;
             sum_of(&rt, rt.alloc(), *first, *sign, *second).as_str() == *expected,
-            "{due}"
+            "{expected}"
         );
     }
 }

@@ -2,10 +2,10 @@
 use gms_check::{CompileError, ErrorKind};
 use gms_eval::{Binding, ExecStop, ExecStopOrMemory, StopKind};
 use gms_expressions::{SyntaxError, SyntaxFault, SyntaxFaultOrMemory};
+use gms_grammar::{ByteFault, LexError};
 use gms_host::Failed;
 use gms_labels::{LabelFault, Place};
 use gms_lex::{LexFault, LexFaultOrMemory};
-use gms_grammar::{ByteFault, LexError};
 use gms_parse::{SourceError, SourceFault, SourceFaultOrMemory};
 use gms_save::{SaveFault, SaveFaultOrMemory};
 use gms_save_text::ReadFault;
@@ -35,7 +35,7 @@ const MEMORY: &str = "out of memory";
 fn check<E: Display>(rt: &impl Abort, alloc: Global, rows: &[(E, &str)]) {
     for (error, expected) in rows {
         let text = format!(in alloc; "{error}").expect(rt, "memory");
-        assert!(rt; text.as_str() == *expected, "{due}");
+        assert!(rt; text.as_str() == *expected, "{expected}");
     }
 }
 

@@ -129,7 +129,9 @@ fn quotient_is_expected(x: &Pair, y: &Pair) -> bool {
 /// Compares the answers of the calls on a value and each of these with those of the rules.
 fn check_row(rt: &impl Abort, x: &Pair, values: &[Pair]) {
     for y in values {
-        let are_expected = sums_are_expected(x, y) && products_are_expected(x, y) && quotient_is_expected(x, y);
+        let are_expected = sums_are_expected(x, y)
+            && products_are_expected(x, y)
+            && quotient_is_expected(x, y);
         assert!(rt; are_expected, "{}/{} and {}/{}", x.0, x.1, y.0, y.1);
     }
 }

@@ -91,7 +91,15 @@ fn check(
 fn a_failed_call_ends_a_run(rt: HostRuntime) {
     let (source, expected) = LOOPED;
     for row in &LOOPED_ROWS {
-        check(&rt, rt.alloc(), source, &["a.gms"], expected, row, "bland\n");
+        check(
+            &rt,
+            rt.alloc(),
+            source,
+            &["a.gms"],
+            expected,
+            row,
+            "bland\n",
+        );
     }
 }
 

@@ -247,7 +247,10 @@ fn answers_over_small_numbers(rt: HostRuntime) {
     for (given, expected) in &REFUSED {
         let lp: Lp<Tiny> = program(&rt, alloc, given);
         let answer = solved(&rt, alloc, &lp);
-        assert!(rt; told(&rt, alloc, &answer).as_str() == *expected, "{due}");
+        assert!(rt;
+            told(&rt, alloc, &answer).as_str() == *expected,
+            "{expected}"
+        );
     }
     let lp: Lp<Half> = program(&rt, alloc, &CAPPED);
     let answer = solved(&rt, alloc, &lp);
@@ -395,7 +398,10 @@ fn points_and_bounds_over_small_numbers(rt: HostRuntime) {
     }
     let lp: Lp<Tiny> = program(&rt, alloc, &CAPPED);
     for (x, z, expected) in &POINTS {
-        assert!(rt; tested(&rt, alloc, &lp, *x, *z).as_str() == *expected, "{due}");
+        assert!(rt;
+            tested(&rt, alloc, &lp, *x, *z).as_str() == *expected,
+            "{expected}"
+        );
     }
     let bound: Result<Half, StepName> = bound_by_two(&rt, alloc);
     assert!(rt; matches!(bound, Ok(bound) if bound.parts() == (2, 1)));

@@ -23,7 +23,10 @@ pub struct Line {
 // Written out, so that it is proved once, and not in each crate that drops one.
 impl Drop for Line {
     fn drop(self) {
-        let Self { tree: _, following: _ } = self;
+        let Self {
+            tree: _,
+            following: _,
+        } = self;
     }
 }
 

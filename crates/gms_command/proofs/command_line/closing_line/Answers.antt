@@ -1,6 +1,6 @@
 use Rattle.std.proofs.Common.{rules}
 use Rattle.std.specs.Prelude.{codes, decimal}
-use Rattle.gms_command.proofs.Lines.{seven_pieces, made_text}
+use Rattle.gms_command.proofs.PrintedLines.{seven_pieces, made_text}
 use Rattle.gms_command.proofs.command_line.closing_line.Goals as goal
 
 pub returns : goal.returns

@@ -1,6 +1,6 @@
 use Rattle.std.proofs.Common.{rules}
 use Rattle.std.specs.Prelude.{codes, decimal}
-use Rattle.gms_command.proofs.Lines.{eleven_pieces, made_text}
+use Rattle.gms_command.proofs.PrintedLines.{eleven_pieces, made_text}
 use Rattle.gms_command.proofs.command_line.generated_line.Goals as goal
 
 pub returns : goal.returns

@@ -1,6 +1,6 @@
 use Rattle.std.proofs.Common.{◌∙◌, ◌++◌, sym, append_assoc, rules}
 use Rattle.std.specs.Prelude.{codes}
-use Rattle.gms_command.proofs.Lines.{five_pieces, made_text}
+use Rattle.gms_command.proofs.PrintedLines.{five_pieces, made_text}
 use Rattle.gms_command.proofs.command_line.not_shown_line.Goals as goal
 
 pub returns : goal.returns

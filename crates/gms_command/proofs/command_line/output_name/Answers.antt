@@ -1,7 +1,7 @@
 use Rattle.std.proofs.Common.{◌≡◌, ◌-◌, false, drop, length, rules}
 use Rattle.std.specs.Prelude.{codes}
 use Rattle.std.specs.Str.{bytes_eq}
-use Rattle.gms_command.proofs.Lines.{lacks_ending}
+use Rattle.gms_command.proofs.PrintedLines.{lacks_ending}
 use Rattle.gms_command.proofs.command_line.output_name.Goals as goal
 
 pub returns-in-None : goal.returns-in-None

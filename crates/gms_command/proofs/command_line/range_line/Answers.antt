@@ -1,6 +1,6 @@
 use Rattle.std.proofs.Common.{rules, option_map}
 use Rattle.std.specs.Prelude.{codes, unwrap_or}
-use Rattle.gms_command.proofs.Lines.{nine_pieces, made_text}
+use Rattle.gms_command.proofs.PrintedLines.{nine_pieces, made_text}
 use Rattle.gms_command.proofs.command_line.range_line.Goals as goal
 
 pub returns : goal.returns

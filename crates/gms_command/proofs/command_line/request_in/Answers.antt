@@ -1,7 +1,7 @@
 use Rattle.std.proofs.Common.{◌≡◌, ◌∙◌, Some, None, option_map, sym, ap, ap₂, rules, codes, List, Option, ℕ}
 use Rattle.clap.specs.Matches.{found_of}
-use Rattle.clap.specs.Traversal.{first_of, rows_of}
-use Rattle.clap.proofs.TraversalLemmas.{first_value-rows}
+use Rattle.clap.specs.Walk.{first_of, rows_of}
+use Rattle.clap.proofs.WalkLemmas.{first_value-rows}
 use Rattle.gms_command.specs.CommandLine.{asked, asked_by, is_flag_given, origin, origin_of}
 use Rattle.gms_command.proofs.command_line.request_in.Goals as goal
 
