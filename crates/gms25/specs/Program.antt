@@ -19,18 +19,20 @@ use Rattle.gms_run.specs.Statuses.{CanRun, CountsSo, EndsByNoFault, IsReadyFor, 
 use Rattle.gms_run.specs.declared.status.Status.{Status}
 use Rattle.gms_run.specs.declared.status.Status.TheVariants.{Done, Usage, Compile, Execution}
 
--- the arguments that the process gives: all after the program's name, or none if it gives an error
+-- the arguments of the process, by the result of reading them: all after the program's name; none
+-- if that is an error
 abbrev pub given_words : Result (IntoIter (String Global) Global) Error → List (String Global)
 given_words (Ok args) = drop 1 (into_iter_items args)
 given_words (Err error) = []
 
--- the arguments of a run: all after the program's name, or none if one of them is not UTF-8
+-- the words are the arguments of a run: all after the program's name; none if one of them is not
+-- UTF-8
 abbrev pub HasWords : Result (IntoIter (String Global) Global) Error → List (String Global) → Type 0
 HasWords (Ok args) words = words ≡ drop 1 (into_iter_items args)
 HasWords (Err error) words = (error_kind error ≡ InvalidData) × (words ≡ [])
 
--- the solvers that a run is lent, which have given no answer: by Bland's rule, by the largest
--- coefficient, by steepest edge, and by several rules in turn
+-- the solvers that the program gives to a run before any answer, with their rules: Bland's rule,
+-- the largest coefficient, improving variables with a turn to Bland's rule, and any legal pivots
 abbrev pub lent : Solvers
 lent =
     record {
@@ -39,8 +41,12 @@ lent =
       paths = [] ∷ [] ∷ [] ∷ [] ∷ [];
     }
 
--- The run of arguments with these solvers ends with this status: what `run` of gms_run promises of
--- it, with the answers that the solvers gave.
+-- A run of these arguments with the solvers `lent` ends with this status; the host is in the state
+-- `old` before it and `new` after it. The run did what this status says (`run`), and its answers
+-- are right (`answers`). For a FILE alone, a status with a listing means that the whole listing was
+-- written (`headline`). If the arguments request an input that the host has, and no fault of the
+-- host was met, then the status is Compile exactly if the input cannot be run (`compile`), and
+-- Execution exactly if an execution error stopped its run (`execution`).
 pub record RunsWith (status : Status) (words : List (List ℕ)) (old new : Meaning) : Type 0 where
   pub solving : Solving
   pub lends : solving.before ≡ lent
@@ -53,12 +59,14 @@ pub record RunsWith (status : Status) (words : List (List ℕ)) (old new : Meani
   pub execution : (source : NamesSource old.outside words) → MeetsNoFault old.counts new.counts →
       (status ≡ Execution) ↔ IsStopped solving source.taken
 
--- the run of the arguments that the process gives
+-- a run of the arguments that the process gives ends with this status
 abbrev pub RunsGiven : Status → Result (IntoIter (String Global) Global) Error → Meaning → Meaning → Type 0
 RunsGiven status args old new = (words : List (String Global)) × (HasWords args words × RunsWith status (texts words) old new)
 
--- A run of the process's arguments ends with this status, which has a cause in the arguments and in
--- what the host counts.
+-- A run of the process's arguments ends with this status. The counts of faults agree with it
+-- (`counts`), and it is no fault of the host if the host is ready for the request (`no_fault`). It
+-- is Usage exactly if the arguments are no request (`usage`). If the requested input can be run,
+-- and no fault of the host was met, it is Done or Execution (`complete`).
 pub record EndsGiven (status : Status) (args : Result (IntoIter (String Global) Global) Error) (old new : Meaning) : Type 0 where
   pub run : RunsGiven status args old new
   pub counts : CountsSo status old.counts new.counts
@@ -71,6 +79,7 @@ abbrev pub exit_of : Result Status AllocError → ℕ
 exit_of (Ok status) = status_code status
 exit_of (Err e) = 6
 
--- the process exits with the status of a run of its arguments, or with 6 if it ran out of memory
+-- the process exits with `code`: the status of a run of its arguments, or 6 if that ran out of
+-- memory
 abbrev pub ExitsSo : ℕ → Result (IntoIter (String Global) Global) Error → Meaning → Meaning → Type 0
 ExitsSo code args old new = (ended : Result Status AllocError) × ((code ≡ exit_of ended) × IfOk ended (λ status. EndsGiven status args old new))

@@ -7,8 +7,8 @@ abbrev pub capped : ℕ → ℕ
 capped n = min n 4294967295
 
 abbrev mutual
-  -- the nesting of a tree: one more than the greatest nesting of its direct parts, so 1 without
-  -- direct parts; the amounts of lags and the conditions of controls are direct parts too
+  -- the nesting of a tree: one more than the greatest nesting of its subtrees, so 1 without
+  -- subtrees; the amounts of lags and the conditions of folds are subtrees too
   pub nesting : {N : Type 0} → Tree N → ℕ
   nesting (number n) = 1
   nesting plus_infinity = 1
@@ -30,19 +30,19 @@ abbrev mutual
   nesting (one_of parts) = deepest parts + 1
   nesting (guarded operand guards) = max (nesting operand) (deepest guards) + 1
 
-  -- the greatest nesting of some parts, or 0
+  -- the greatest nesting of the trees of some parts, or 0 without parts
   pub deepest : {N : Type 0} → Parts N → ℕ
   deepest no_part = 0
   deepest (part mark tree rest) = max (nesting tree) (deepest rest)
 
-  -- the greatest nesting of the amounts of lags, or 0
+  -- the greatest nesting of the amounts of lags among the indices, or 0 without lags
   pub deepest_amount : {N : Type 0} → Indices N → ℕ
   deepest_amount no_index = 0
   deepest_amount (label n rest) = deepest_amount rest
   deepest_amount (set name rest) = deepest_amount rest
   deepest_amount (lagged name op at amount rest) = max (nesting amount) (deepest_amount rest)
 
-  -- the nesting of a control's condition, or 0
+  -- the nesting of the condition of a fold or loop, or 0 without one
   pub condition_nesting : {N : Type 0} → Control N → ℕ
   condition_nesting (over sets) = 0
   condition_nesting (over_where sets condition) = nesting condition

@@ -4,7 +4,7 @@ use Rattle.gms_ast.specs.Trees.{Tree, number, plus_infinity, not_available, yes,
 
 module _ {F N : Type 0} (value : F → N) where
   abbrev mutual
-    -- a tree over values as the tree over the numbers that they mean
+    -- the tree with each number v replaced by `value v`
     pub in_numbers : Tree F → Tree N
     in_numbers (number v) = number (value v)
     in_numbers plus_infinity = plus_infinity

@@ -13,14 +13,16 @@ use Rattle.gms_ast.specs.declared.program.Show.{Show}
 use Rattle.gms_ast.specs.declared.program.Setting.{Setting}
 use Rattle.gms_ast.specs.Trees.{Tree, Indices, Control}
 
--- What is assigned: the place of its first character, its name, its suffix and its indices.
+-- The left side of an assignment: the place of its first character, its name, its suffix and its
+-- indices.
 pub record Target (N : Type 0) : Type 0 where
   pub at : Place
   pub name : ℕ
   pub suffix : Suffix
   pub indices : Indices N
 
--- The two sides of an equation, each with the place of its first character, and how they relate.
+-- The two sides of an equation, each with the place of its first character, and the relation
+-- between them.
 pub record Sides (N : Type 0) : Type 0 where
   pub left_at : Place
   pub left : Tree N
@@ -57,7 +59,7 @@ mutual
     no_statement : Statements N
     statement : Place → Act N → Statements N → Statements N
 
--- statements, followed by others
+-- the statements of one sequence, followed by those of another
 abbrev pub followed_by : {N : Type 0} → Statements N → Statements N → Statements N
 followed_by no_statement others = others
 followed_by (statement at act rest) others = statement at act (followed_by rest others)

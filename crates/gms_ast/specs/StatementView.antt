@@ -19,50 +19,52 @@ use Rattle.gms_ast.specs.TreeView.{tree_of, index_tree, indices_of, control_tree
 use Rattle.gms_ast.specs.Numbers.{in_numbers, indices_in_numbers, control_in_numbers}
 use Rattle.gms_ast.specs.StatementTrees.{Act, declares, aliases, assigns, defines, declares_models, solves, displays, loops, sets_options, aborts, Statements, no_statement, statement, Target}
 
--- Values as numbers.
+-- The values of a program's statements as the numbers that they mean, by `value`.
 module _ {F N : Type 0} (value : F → N) where
-  -- an extended value
+  -- an extended value over F as one over N
   abbrev pub extended_in : Ext F → Ext N
   extended_in (Number v) = Number (value v)
   extended_in PlusInf = PlusInf
   extended_in MinusInf = MinusInf
   extended_in Na = Na
 
-  -- an item of data
+  -- an item of data; a number v that is its value is replaced by `value v`
   abbrev pub item_in : Item F → Item N
   item_in item = record { at = item.at; parts = item.parts; value = option_map extended_in item.value; bad_range = item.bad_range }
 
-  -- a name that is declared
+  -- a declared name; each number v that is the value of one of its items is replaced by `value v`
   abbrev pub declared_in : Decl F → Decl N
   declared_in declared = record { named = declared.named; domain = declared.domain; items = map item_in declared.items }
 
-  -- what an option is set to
+  -- the setting of an option; a number v is replaced by `value v`, and a word stays
   abbrev pub setting_in : Setting F → Setting N
   setting_in (setting.Number at v) = setting.Number at (value v)
   setting_in (setting.Name word) = setting.Name word
 
-  -- an expression
+  -- the tree of an expression, with each number v in it replaced by `value v`
   abbrev pub shown_tree : Expr F → Tree N
   shown_tree e = in_numbers value (tree_of e)
 
-  -- the indices of a reference
+  -- the indices of a reference, with each number v in their lags replaced by `value v`
   abbrev pub shown_indices : List (Index F) → Indices N
   shown_indices indices = indices_in_numbers value (indices_of (map index_tree indices))
 
-  -- what is assigned
+  -- the left side of an assignment, with each number v in its lags replaced by `value v`
   abbrev pub shown_target : TargetNode F → Target N
   shown_target target = record { at = target.at; name = target.name; suffix = target.suffix; indices = shown_indices target.indices }
 
-  -- the right side of an assignment
+  -- the tree of the right side of an assignment, with each number v in it replaced by `value v`
   abbrev pub shown_right : Right F → Tree N
   shown_right (right.Value e) = shown_tree e
 
-  -- statements in order, of which each is given as what it puts before the others
+  -- the sequence of statements to which each function in the list adds its statement at the
+  -- beginning
   abbrev pub statements_in_order : List (Statements N → Statements N) → Statements N
   statements_in_order [] = no_statement
   statements_in_order (put ∷ puts) = put (statements_in_order puts)
 
-  -- the view of an act, given for each statement in it what it puts before others
+  -- the view of an act, in which each statement of a loop's body is given as the function that puts
+  -- its view before others
   abbrev pub act_view_step : Act-F F (Act N) (Statements N → Statements N) → Act N
   act_view_step (Act-F.Declare kind items) = declares kind (map declared_in items)
   act_view_step (Act-F.Alias first second) = aliases first second
@@ -77,14 +79,15 @@ module _ {F N : Type 0} (value : F → N) where
   act_view_step (Act-F.Options settings) = sets_options (map (λ pair. (pair.0, setting_in pair.1)) settings)
   act_view_step (Act-F.Abort condition items) = aborts (option_map shown_tree condition) items
 
-  -- a statement, before others
+  -- the view of one statement, of which `node` has the place and the view of its act, before others
   abbrev pub statement_view_step : Stmt-F F (Act N) (Statements N → Statements N) → Statements N → Statements N
   statement_view_step node others = statement node.at node.act others
 
-  -- the statement that one of a program puts before others
+  -- the view of a statement, put before others
   abbrev pub statement_view : Stmt F → Statements N → Statements N
   statement_view = fold-Stmt F (Act N) (Statements N → Statements N) act_view_step statement_view_step
 
-  -- the view of a program's statements
+  -- the statements of a program as contracts compare them, with each number v in them replaced by
+  -- `value v`
   abbrev pub statements_view : List (Stmt F) → Statements N
   statements_view statements = statements_in_order (map statement_view statements)

@@ -11,35 +11,37 @@ use Rattle.gms_ast.specs.declared.expression.Expr.TheFolds.{fold-Expr, fold-Inde
 use Rattle.gms_ast.specs.Trees.{Mark, plain, placed, signed, related, chosen, Tree, number, plus_infinity, not_available, yes, no, reference, place_in_set, size_of_set, call, fold_over, negated, sum, product, power, relation, not_so, all_of, one_of, guarded, Parts, no_part, part, Indices, no_index, label, set, lagged, Control, over, over_where}
 
 module _ {F : Type 0} where
-  -- trees with their marks, as the parts of a node
+  -- a list of trees with their marks, as the parts of a node
   abbrev pub parts_of : List (Mark × Tree F) → Parts F
   parts_of [] = no_part
   parts_of (p ∷ ps) = part p.0 p.1 (parts_of ps)
 
-  -- trees without marks, as the parts of a node
+  -- a list of trees, as the parts of a node without marks
   abbrev pub plain_parts : List (Tree F) → Parts F
   plain_parts trees = parts_of (map (λ tree. (plain, tree)) trees)
 
-  -- trees with places and signs, as the parts of a sum or a product
+  -- a list of trees, each with its place and whether it is subtracted or divides, as the parts of a
+  -- sum or a product
   abbrev pub signed_parts : List (Place × Bool × Tree F) → Parts F
   signed_parts parts = parts_of (map (λ p. (signed p.0 p.1, p.2)) parts)
 
-  -- indices, of which each is given as what it puts before the others
+  -- the indices to which each function in the list adds its index at the beginning
   abbrev pub indices_of : List (Indices F → Indices F) → Indices F
   indices_of [] = no_index
   indices_of (put ∷ puts) = put (indices_of puts)
 
-  -- an index by a set, with its lag if any, before the others
+  -- an index by the set with the number `name`, with its lag if it has one, followed by other
+  -- indices
   abbrev pub set_index : ℕ → Option (LagOp × Place × Box (Tree F) Global) → Indices F → Indices F
   set_index name None rest = set name rest
   set_index name (Some lag) rest = lagged name lag.0 lag.1 lag.2.value rest
 
-  -- sets, with a condition if any
+  -- the control over these sets, with a condition if there is one
   abbrev pub control_of : List ℕ → Option (Box (Tree F) Global) → Control F
   control_of sets None = over sets
   control_of sets (Some condition) = over_where sets condition.value
 
-  -- the tree of one node, given the trees of its parts
+  -- the tree of one node of an expression, given the trees of its parts
   abbrev pub tree_step : Expr-F F (Tree F) (Indices F → Indices F) (Control F) → Tree F
   tree_step (Expr-F.Number n) = number n
   tree_step Expr-F.PlusInf = plus_infinity
@@ -61,12 +63,12 @@ module _ {F : Type 0} where
   tree_step (Expr-F.Or parts) = one_of (parts_of (map (λ p. (chosen p.0, p.1)) parts.items))
   tree_step (Expr-F.Guard operand guards) = guarded operand.value (plain_parts guards.items)
 
-  -- one index, given the tree of its lag's amount
+  -- one index put before others, given the tree of its lag's amount
   abbrev pub index_step : Index-F F (Tree F) (Indices F → Indices F) (Control F) → Indices F → Indices F
   index_step (Index-F.Label n) = label n
   index_step (Index-F.Set name lag) = set_index name lag
 
-  -- one control, given the tree of its condition
+  -- the control of one fold or loop, given the tree of its condition
   abbrev pub control_step : Control-F F (Tree F) (Indices F → Indices F) (Control F) → Control F
   control_step control = control_of control.sets control.condition
 
@@ -74,10 +76,10 @@ module _ {F : Type 0} where
   abbrev pub tree_of : Expr F → Tree F
   tree_of = fold-Expr F (Tree F) (Indices F → Indices F) (Control F) tree_step index_step control_step
 
-  -- the index that an index of the program puts before others
+  -- an index of a program put before others
   abbrev pub index_tree : Index F → Indices F → Indices F
   index_tree = fold-Index F (Tree F) (Indices F → Indices F) (Control F) tree_step index_step control_step
 
-  -- the view of a control
+  -- the view of the control of a fold or loop: its sets and its condition
   abbrev pub control_tree : ControlNode F → Control F
   control_tree = fold-Control F (Tree F) (Indices F → Indices F) (Control F) tree_step index_step control_step

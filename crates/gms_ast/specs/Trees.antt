@@ -8,21 +8,22 @@ use Rattle.gms_ast.specs.declared.expression.LagOp.{LagOp}
 use Rattle.gms_ast.specs.declared.expression.Function.{Function}
 use Rattle.gms_ast.specs.declared.expression.RelOp.{RelOp}
 
--- What accompanies a part of a node.
+-- What a part of a node has besides its tree.
 pub data Mark : Type 0 where
   -- nothing
   plain : Mark
   -- its place, in a power
   placed : Place → Mark
-  -- its place and whether it is subtracted or divides, in a sum or a product
+  -- its place, and a flag: in a sum whether it is subtracted, in a product whether it divides
   signed : Place → Bool → Mark
-  -- the relation before it
+  -- the relation before the part
   related : RelOp → Mark
-  -- whether it is joined by `xor`
+  -- in a choice, whether `xor` and not `or` joins the part to those before it
   chosen : Bool → Mark
 
 mutual
-  -- An expression over numbers of N.
+  -- An expression over numbers of N. A ℕ is the number of a name; a place is that of the first
+  -- character.
   pub data Tree (N : Type 0) : Type 0 where
     number : N → Tree N
     plus_infinity : Tree N
@@ -57,7 +58,7 @@ mutual
     set : ℕ → Indices N → Indices N
     lagged : ℕ → LagOp → Place → Tree N → Indices N → Indices N
 
-  -- The sets of a fold or a loop, without a condition or with one.
+  -- The sets of a fold or a loop, by the numbers of their names, without a condition or with one.
   pub data Control (N : Type 0) : Type 0 where
     over : List ℕ → Control N
     over_where : List ℕ → Tree N → Control N

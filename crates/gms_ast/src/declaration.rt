@@ -1,10 +1,10 @@
-//! What declarations say: names with their domains and their data, and models with their equations.
+//! Declarations: names with their domains and their data, and models with their equations.
 use crate::sequence::Sequence;
 use crate::word::Named;
 use gms_labels::Place;
 use gq_extended::Ext;
 
-/// What a declaration declares. Each example is the beginning of one.
+/// What a declaration declares; the example of each variant is how such a declaration begins.
 #[derive(Clone, Copy, Debug, PartialEq, Eq)]
 pub enum DeclKind {
     /// `set i /a, b/;`
@@ -33,15 +33,17 @@ pub enum DeclKind {
 /// the data are one item.
 #[derive(Debug)]
 pub struct Decl<F> {
-    /// The name.
+    /// The declared name, with its place in the source.
     pub named: Named,
-    /// The set of each position. `None` is a position with `*`.
+    /// For each position of the name, in order, the set that the domain has there, or `None` for a
+    /// `*`, which admits any label.
     pub domain: Sequence<Option<Named>>,
-    /// The data, in order. Each entry of a table is one item.
+    /// The items of data that the declaration gives the name, in order. Each entry of a table is
+    /// one item.
     pub items: Sequence<Item<F>>,
 }
 
-// Written out, so that it is proved here alone, and not in each crate that lets one go.
+// Written out, so that it is proved here once, and not in each crate that drops such a value.
 impl<F: Drop> Drop for Decl<F> {
     fn drop(self) {
         let Self {
@@ -52,22 +54,26 @@ impl<F: Drop> Drop for Decl<F> {
     }
 }
 
-/// One item of data: the labels of an element, and the value that it gives them.
+/// One item of data: the labels of one or more elements, and the value that the item gives each of
+/// them.
 ///
-/// In `/a.(b,c) 5/` it has two positions, with one label and with two, and the number 5.
+/// In `/a.(b,c) 5/` the elements are `a.b` and `a.c`: the first position has one label, the second
+/// has two, and the value is 5.
 #[derive(Debug)]
 pub struct Item<F> {
-    /// The place of its first character.
+    /// The place of the item's first character; for an entry of a table, the place of the number.
     pub at: Place,
-    /// For each position its labels, by their numbers.
+    /// For each position of the elements, in order, the labels that the item lists there, by their
+    /// numbers in the table of labels.
     pub parts: Sequence<Sequence<u32>>,
-    /// The value, where the item has one: a number, an infinity or NA.
+    /// The value that the item gives its elements: a number, an infinity or NA; `None` if the item
+    /// has no value, as in `/a/`.
     pub value: Option<Ext<F>>,
-    /// Whether the item has a range that is none, as in `/a3*a1/`.
+    /// Whether the item has an invalid range, as in `/a3*a1/`.
     pub bad_range: bool,
 }
 
-// Written out, so that it is proved here alone, and not in each crate that lets one go.
+// Written out, so that it is proved here once, and not in each crate that drops such a value.
 impl<F: Drop> Drop for Item<F> {
     fn drop(self) {
         let Self {
@@ -81,19 +87,19 @@ impl<F: Drop> Drop for Item<F> {
 
 /// One model that is declared.
 ///
-/// In `model m /cost, supply/;` it is `m` of two equations, and in `model m /all/;` of all that are
-/// declared.
+/// In `model m /cost, supply/;` the model `m` has two equations, and in `model m /all/;` it has all
+/// equations that are declared.
 #[derive(Debug)]
 pub struct ModelDecl {
-    /// The name of the model.
+    /// The name of the model, with its place in the source.
     pub named: Named,
-    /// Whether the model has all equations.
+    /// Whether the model has all declared equations, as in `model m /all/;`.
     pub all: bool,
-    /// The equations that are named, in order.
+    /// The equations that the declaration of the model lists by name, in order.
     pub equations: Sequence<Named>,
 }
 
-// Written out, so that it is proved here alone, and not in each crate that lets one go.
+// Written out, so that it is proved here once, and not in each crate that drops such a value.
 impl Drop for ModelDecl {
     fn drop(self) {
         let Self {

@@ -2,7 +2,7 @@
 use crate::sequence::Sequence;
 use gms_labels::Place;
 
-/// Which value of a symbol a reference takes. Each example is a reference.
+/// Which value of a symbol a reference takes; the example of each variant is such a reference.
 #[derive(Clone, Copy, Debug, PartialEq, Eq)]
 pub enum Suffix {
     /// `p(i)`: no suffix.
@@ -23,7 +23,7 @@ pub enum Suffix {
     SolveStat,
 }
 
-/// How a fold joins its values.
+/// How a fold, as `sum(i, p(i))`, joins the values of its body.
 #[derive(Clone, Copy, Debug, PartialEq, Eq)]
 pub enum FoldOp {
     /// `sum(i, p(i))`
@@ -36,7 +36,7 @@ pub enum FoldOp {
     Smax,
 }
 
-/// How an index goes from an element to another of its set.
+/// How a lag, as in `i+1`, moves an index from an element to another of its set.
 #[derive(Clone, Copy, Debug, PartialEq, Eq)]
 pub enum LagOp {
     /// `i+1`
@@ -95,11 +95,13 @@ pub enum RelOp {
     Gt,
 }
 
-/// An expression over the numbers of a field.
+/// An expression, whose numbers are of the field `F`.
 ///
-/// Parentheses and a sign `+` leave no trace, and a production without an operator adds no node.
-/// The place of a part of a sum, a product or a power is that of its first character, its own sign
-/// included. The mark of a first part has no meaning: it is false, or `Eq`.
+/// Parentheses, a sign `+` and a production of the grammar without an operator add no node. The
+/// place of a part of a sum, a product or a power is that of the part's first character, which may
+/// be a sign. A flag or a relation of a part tells the operator before the part. The first part has
+/// no operator before it, so its flag, which is false, or its relation, which is `Eq`, has no
+/// meaning.
 #[cycle(expression)]
 pub enum Expr<F> {
     /// A number, as `2.5`.
@@ -114,7 +116,7 @@ pub enum Expr<F> {
     No,
     /// A reference to a symbol, as `x.l(i,"a")`.
     Ref {
-        /// The place of its first character.
+        /// The place of the reference's first character.
         at: Place,
         /// The name, by its number.
         name: u32,
@@ -150,7 +152,7 @@ pub enum Expr<F> {
     Fold {
         /// The place of its first character.
         at: Place,
-        /// How its values are joined.
+        /// How the fold joins the values.
         op: FoldOp,
         /// The sets and the condition.
         control: Control<F>,
@@ -171,7 +173,8 @@ pub enum Expr<F> {
     Not(Box<Expr<F>>),
     /// `a and b`
     And(Vec<Expr<F>>),
-    /// A choice, as `a or b xor c`. Each part has whether it is joined by `xor`.
+    /// A choice, as `a or b xor c`. Each part has whether `xor`, and not `or`, joins it to those
+    /// before it.
     Or(Vec<(bool, Expr<F>)>),
     /// An operand under conditions, as `a$b$c`.
     Guard {
@@ -182,7 +185,7 @@ pub enum Expr<F> {
     },
 }
 
-// Written out, so that it is proved here alone, and not in each crate that lets one go.
+// Written out, so that it is proved here once, and not in each crate that drops such a value.
 impl<F: Drop> Drop for Expr<F> {
     #[cycle(let_go)]
     fn drop(self) {
@@ -227,12 +230,12 @@ impl<F: Drop> Drop for Expr<F> {
     }
 }
 
-/// An index of a reference.
+/// An index of a reference to a symbol: a label or a set.
 #[cycle(expression)]
 pub enum Index<F> {
     /// A label in quotation marks, as `"a"`, by its number.
     Label(u32),
-    /// A set that is controlled, as `i` or `i-1`.
+    /// A controlled set, as `i` or `i-1`.
     Set {
         /// The set, by the number of its name.
         name: u32,
@@ -241,7 +244,7 @@ pub enum Index<F> {
     },
 }
 
-// Written out, so that it is proved here alone, and not in each crate that lets one go.
+// Written out, so that it is proved here once, and not in each crate that drops such a value.
 impl<F: Drop> Drop for Index<F> {
     #[cycle(let_go)]
     fn drop(self) {
@@ -257,13 +260,13 @@ impl<F: Drop> Drop for Index<F> {
 /// In `sum((i,j)$c(i,j), x(i,j))` the sets are `i` and `j`, and the condition is `c(i,j)`.
 #[cycle(expression)]
 pub struct Control<F> {
-    /// The sets, by the numbers of their names.
+    /// The sets, in order, each by the number of its name in the table of names.
     pub sets: Sequence<u32>,
-    /// The condition, if any.
+    /// The condition on the elements of the sets; `None` if there is no condition.
     pub condition: Option<Box<Expr<F>>>,
 }
 
-// Written out, so that it is proved here alone, and not in each crate that lets one go.
+// Written out, so that it is proved here once, and not in each crate that drops such a value.
 impl<F: Drop> Drop for Control<F> {
     #[cycle(let_go)]
     fn drop(self) {

@@ -8,11 +8,11 @@ ghost use Rattle.gms_ast.specs.Trees.{no_index};
 use crate::expression::{Control, Expr, Index, RelOp};
 use gms_labels::Place;
 
-/// The nesting of an expression, or the greatest number of a `u32` where the nesting passes it.
+/// The nesting of an expression, or the greatest `u32` if the nesting is greater than that.
 ///
-/// It is 1 for an expression without expressions among its direct parts, else one more than the
-/// greatest nesting of these. The amounts of lags and the conditions of controls are direct parts,
-/// too.
+/// The nesting is 1 for an expression without expressions among its direct parts, else one more
+/// than the greatest nesting of these parts. The amounts of lags and the conditions of folds are
+/// direct parts, too.
 #[cycle(nesting)]
 pub fn depth<F>(e: &Expr<F>) -> u32
     ensures { result ≡ capped (nesting (tree_of e.now)) }

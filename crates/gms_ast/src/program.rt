@@ -5,18 +5,18 @@ use crate::sequence::Sequence;
 use crate::word::{Named, Word};
 use gms_labels::{Labels, Place};
 
-/// A program: its two tables, in which names and labels have their numbers, and its statements in
+/// A program: its two tables, which give names and labels their numbers, and its statements in
 /// order.
 pub struct Program<F> {
-    /// The names, in order of first appearance.
+    /// The table of names, numbered in order of first appearance.
     pub names: Labels,
-    /// The labels, in order of first appearance.
+    /// The table of labels, numbered in order of first appearance.
     pub labels: Labels,
-    /// The statements.
+    /// The statements of the program, in order.
     pub statements: Vec<Stmt<F>>,
 }
 
-// Written out, so that it is proved here alone, and not in each crate that lets one go.
+// Written out, so that it is proved here once, and not in each crate that drops such a value.
 impl<F: Drop> Drop for Program<F> {
     fn drop(self) {
         let Self {
@@ -32,13 +32,13 @@ impl<F: Drop> Drop for Program<F> {
 /// `c(i) = 2 * d(i);` is one.
 #[cycle(statement)]
 pub struct Stmt<F> {
-    /// The place of its first character.
+    /// The place of the statement's first character.
     pub at: Place,
-    /// What it does.
+    /// What the statement does, with all its parts.
     pub act: Act<F>,
 }
 
-// Written out, so that it is proved here alone, and not in each crate that lets one go.
+// Written out, so that it is proved here once, and not in each crate that drops such a value.
 impl<F: Drop> Drop for Stmt<F> {
     #[cycle(let_go)]
     fn drop(self) {
@@ -51,7 +51,7 @@ impl<F: Drop> Drop for Stmt<F> {
 pub enum Act<F> {
     /// Declares names of one kind, as `set i /a/, j /b/;`.
     Declare {
-        /// What they are.
+        /// The kind of what is declared.
         kind: DeclKind,
         /// The names, in order.
         items: Sequence<Decl<F>>,
@@ -78,7 +78,7 @@ pub enum Act<F> {
     Define {
         /// The equation.
         equation: Named,
-        /// Its indices.
+        /// The indices of the definition.
         indices: Sequence<Index<F>>,
         /// The condition, if any.
         condition: Option<Expr<F>>,
@@ -114,7 +114,7 @@ pub enum Act<F> {
         /// What is shown, in order.
         items: Sequence<Show>,
     },
-    /// Runs statements once for each element, as `loop(i, s = s + p(i); );`.
+    /// Runs statements for each element of the controlled sets, as `loop(i, s = s + p(i); );`.
     Loop {
         /// The sets and the condition.
         control: Control<F>,
@@ -135,7 +135,7 @@ pub enum Act<F> {
     },
 }
 
-// Written out, so that it is proved here alone, and not in each crate that lets one go.
+// Written out, so that it is proved here once, and not in each crate that drops such a value.
 impl<F: Drop> Drop for Act<F> {
     #[cycle(let_go)]
     fn drop(self) {
@@ -187,13 +187,13 @@ impl<F: Drop> Drop for Act<F> {
 /// In `x.lo(i,"a") = 3;` it is `x.lo(i,"a")`.
 #[derive(Drop)]
 pub struct Target<F> {
-    /// The place of its first character.
+    /// The place of the first character of what is assigned.
     pub at: Place,
-    /// The name, by its number.
+    /// The assigned name, by its number in the table of names.
     pub name: u32,
-    /// The suffix.
+    /// The suffix of the assigned name, as `.lo`; `Suffix::None` if it has none.
     pub suffix: Suffix,
-    /// The indices, in order.
+    /// The indices of the assigned name, in order.
     pub indices: Sequence<Index<F>>,
 }
 
@@ -203,7 +203,7 @@ pub enum Right<F> {
     Value(Expr<F>),
 }
 
-// Written out, so that it is proved here alone, and not in each crate that lets one go.
+// Written out, so that it is proved here once, and not in each crate that drops such a value.
 impl<F: Drop> Drop for Right<F> {
     fn drop(self) {
         match self {
@@ -215,13 +215,13 @@ impl<F: Drop> Drop for Right<F> {
 /// How the two sides of an equation relate.
 #[derive(Clone, Copy, Debug, PartialEq, Eq)]
 pub enum Side {
-    /// `=e=`: they are equal.
+    /// `=e=`: both sides are equal.
     E,
-    /// `=l=`: the left one is at most the right one.
+    /// `=l=`: the left side is at most the right side.
     L,
-    /// `=g=`: the left one is at least the right one.
+    /// `=g=`: the left side is at least the right side.
     G,
-    /// `=n=`: nothing is asked of them.
+    /// `=n=`: no relation.
     N,
 }
 
@@ -239,7 +239,7 @@ pub enum Show {
     },
 }
 
-// Written out, so that it is proved here alone, and not in each crate that lets one go.
+// Written out, so that it is proved here once, and not in each crate that drops such a value.
 impl Drop for Show {
     fn drop(self) {
         match self {
@@ -257,7 +257,7 @@ impl Drop for Show {
 pub enum Setting<F> {
     /// A number, as in `option limrow = 0;`.
     Number {
-        /// The place of its first character.
+        /// The place of the number's first character.
         at: Place,
         /// The number.
         value: F,
@@ -266,7 +266,7 @@ pub enum Setting<F> {
     Name(Word),
 }
 
-// Written out, so that it is proved here alone, and not in each crate that lets one go.
+// Written out, so that it is proved here once, and not in each crate that drops such a value.
 impl<F: Drop> Drop for Setting<F> {
     fn drop(self) {
         match self {

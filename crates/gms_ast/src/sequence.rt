@@ -3,7 +3,8 @@ ghost use Rattle.std.specs.Prelude.{◌≡◌, ◌↔◌, [], length, IsTrue};
 
 use std::marker::Model;
 
-/// A list of values. It is made from a `Vec` and gives it back, and neither takes memory.
+/// A list of values. It is made from a `Vec` and can be turned back into that `Vec`; neither step
+/// allocates memory.
 ///
 /// In a contract, two sequences are equal if they have the same values in the same order, wherever
 /// they are stored. The bytes of the word `lp` in `solve m using lp minimizing z;` are a sequence,
@@ -25,7 +26,7 @@ impl<T> Model for Sequence<T> {
 }
 
 impl<T> Sequence<T> {
-    /// These values, in order.
+    /// The sequence of these values.
     pub fn new(values: Vec<T>) -> Sequence<T>
         ensures { result ≡ values.items }
     {

@@ -2,29 +2,31 @@
 use crate::sequence::Sequence;
 use gms_labels::Place;
 
-/// A name at a place in the source: its number in the program's table of names.
+/// A name at a place in the source, by its number in the program's table of names.
 ///
 /// In `set i /a/;` it is `i`.
 #[derive(Clone, Copy, Debug, PartialEq, Eq)]
 pub struct Named {
-    /// The place of its first character.
+    /// The place of the name's first character.
     pub at: Place,
-    /// Its number in the table of names.
+    /// The name's number in the program's table of names.
     pub name: u32,
 }
 
-/// A word or a text at a place in the source that is in no table: its bytes as they were written.
+/// A word or a text that is in no table of the program: its place in the source, and its bytes as
+/// they were written, without quotation marks.
 ///
 /// In `solve m using lp minimizing z;` it is `lp`, and in `display "costs", c;` it is `costs`.
 #[derive(Debug)]
 pub struct Word {
-    /// The place of its first character.
+    /// The place in the source at which the word or text begins: that of its opening quotation mark
+    /// if it is quoted.
     pub at: Place,
-    /// Its bytes.
+    /// The bytes of the word or text, as they were written in the source, without quotation marks.
     pub text: Sequence<u8>,
 }
 
-// Written out, so that it is proved here alone, and not in each crate that lets one go.
+// Written out, so that it is proved here once, and not in each crate that drops such a value.
 impl Drop for Word {
     fn drop(self) {
         let Self { at: _, text: _ } = self;

@@ -3,7 +3,8 @@ use Rattle.std.specs.Prelude.{ℕ, ◌==◌, List, Option, None, if◌then◌els
 use Rattle.gms_store.specs.State.{State, base_of}
 use Rattle.gms_scope.specs.Below.{superset}
 
--- the set that a one-dimensional set is directly below; an alias stands for its set, and is below
--- nothing by itself
+-- the domain set of a one-dimensional set `name`, an alias replaced by its set; None if no
+-- one-dimensional set that is declared before `name` is its domain, or if `name` is an alias or no
+-- one-dimensional set. `declared` are the declared names, in order
 abbrev pub directly_above : State → List ℕ → ℕ → Option ℕ
 directly_above state declared name = if base_of state name == name then superset state declared name else None

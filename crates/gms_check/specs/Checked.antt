@@ -20,9 +20,9 @@ use Rattle.gms_check.specs.CompileErrors.{compile_errors, has_error, known_after
 use Rattle.gms_check.specs.Loaded.{sound}
 
 module _ {F : Type 0} where
-  -- Indices that fit a name: they are as many as its positions, and at most 10; each set is
-  -- one-dimensional and below its position's set, and each label is in it; a set with a lag is
-  -- ordered.
+  -- Indices that fit a name: they are as many as its positions, and at most 10. Each set is
+  -- one-dimensional, and is the set of its position or below that by domain sets; each label is a
+  -- member of the set of its position; and each set with a lag is ordered.
   pub record AreIndices (known : Known F) (name : ℕ) (indices : Indices F) : Type 0 where
     pub count : index_count indices ≡ length (positions known.state name)
     pub few : index_count indices ≤ 10
@@ -31,16 +31,19 @@ module _ {F : Type 0} where
     pub labels : has_unfit_label known name (positions known.state name) indices ≡ false
     pub ordered : All (λ index. is_ordered known index ≡ true) (lagged_sets indices)
 
-  -- A reference that has a meaning: its name is declared and may occur in this context, its indices
-  -- fit it, and each index set is controlled.
+  -- A reference without errors: its name is declared, `context` admits the name with its suffix,
+  -- its indices fit the name, and each set among them is one of the sets `controlled`.
   pub record IsReading (known : Known F) (context : Context) (controlled : List ℕ) (name : ℕ) (suffix : Suffix) (indices : Indices F) : Type 0 where
     pub declared : has_no_declaration known.state name ≡ false
     pub occurs : may_occur context (declared_kind known.state name) suffix ≡ true
     pub fitting : AreIndices known name indices
     pub controls : All (λ index. is_among controlled index ≡ true) (index_sets indices)
 
-  -- what holds of each use in a program without errors: of references and controls this, of any
-  -- other that no error's condition holds
+  -- what holds of a use in a program without errors. A reference is one without errors. The set of
+  -- an `ord` is one-dimensional, controlled and ordered; that of a `card` is a set. The sets of a
+  -- control are at most 10, one-dimensional, and none is controlled twice. A name that is assigned
+  -- or defined is declared and of a kind that admits this, and its indices fit it. Any other use
+  -- has no error of any kind
   abbrev pub IsSound : Known F → Use F → Type 0
   IsSound known (reading context controlled name suffix indices) = IsReading known context controlled name suffix indices
   IsSound known (ordinal context controlled name) =
@@ -54,16 +57,17 @@ module _ {F : Type 0} where
       (has_no_declaration known.state name ≡ false) × (is_equation (declared_kind known.state name) ≡ true) × AreIndices known name indices
   IsSound known used = (kind : ErrorKind) → has_error known used kind ≡ false
 
-  -- each of these uses is sound
+  -- each of these uses is sound, where `known` is what is known before them
   abbrev pub AreSound : Known F → Uses F → Type 0
   AreSound known uses = All (λ u. IsSound known u.1) uses
 
-  -- a statement follows these in a program
+  -- the program consists of the statements `before`, the statement `statement`, and further ones
   abbrev pub FollowsIn : Program F → List (Stmt F) → Stmt F → Type 0
   FollowsIn program before statement = (rest : List (Stmt F)) × (program.statements.items ≡ before ++ statement ∷ rest)
 
-  -- a program without errors: every statement's parts are sound, by what the statements before it
-  -- declare
+  -- in a program without errors all uses of each statement are sound, by what is known after the
+  -- statements before it; `value` gives the number that a value of `F` means, and `solvers` are the
+  -- names of the solvers
   abbrev pub IsChecked : (F → Number) → Program F → List (List ℕ) → Type 0
   IsChecked value program solvers =
       (before : List (Stmt F)) (statement : Stmt F) → FollowsIn program before statement → AreSound (known_after value program solvers (sound before)) (statement_uses statement (known_after value program solvers (sound before)).state [])

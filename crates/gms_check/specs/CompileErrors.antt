@@ -1,6 +1,7 @@
--- The compile errors of a program: for each statement the first by place, then by number. A loop
--- with its body is one statement. `Names`, `Kinds`, `Domains`, `Controls`, `Linearity` and `Solves`
--- define which conditions are errors, each in a definition of the error's name.
+-- The compile errors of a program: for each statement the first by its place in the source, and at
+-- one place the one with the least number. A loop with its body is one statement. `Names`, `Kinds`,
+-- `Domains`, `Controls`, `Linearity` and `Solves` define which conditions are errors, each in a
+-- definition of the error's name.
 use Rattle.std.specs.Prelude.{ℕ, nat_lt, Bool, true, false, ◌&&◌, List, [], ◌∷◌, ◌++◌, length, map, flat_map, filter, Option, is_none, option_to_list, if◌then◌else◌}
 use Rattle.gq_number.specs.Number.{Number}
 use Rattle.gms_labels.specs.declared.place.Place.{Place}
@@ -31,12 +32,12 @@ use Rattle.gms_check.specs.Controls.{uncontrolled, controlled_twice, not_ordered
 use Rattle.gms_check.specs.Linearity.{nonlinear, endogenous}
 use Rattle.gms_check.specs.Solves.{model_type, not_defined, defined_twice, objective, unknown_solver, option_range, data_fault}
 
--- the errors that a check finds, in the order of their numbers
+-- the errors that a check finds, in the order of their numbers: all except Restart
 abbrev pub checked_kinds : List ErrorKind
 checked_kinds =
     UnknownName ∷ Redeclared ∷ WrongKind ∷ WrongArity ∷ DomainOfSet ∷ DomainOfLabel ∷ Uncontrolled ∷ ControlledTwice ∷ NotOrdered ∷ DynamicDomain ∷ Nonlinear ∷ Discrete ∷ ModelType ∷ NotDefined ∷ DefinedTwice ∷ Objective ∷ UnknownSolver ∷ OptionRange ∷ Endogenous ∷ Function ∷ DataFault ∷ []
 
--- whether there is no error
+-- whether there are no errors
 abbrev pub is_faultless : List CompileError → Bool
 is_faultless errors = is_none (first_error errors)
 
@@ -66,78 +67,85 @@ module _ {F : Type 0} where
   has_error known used DataFault = data_fault known used
   has_error known used Restart = false
 
-  -- the errors of a use at a place
+  -- the errors of a use at a place in the source, in the order of their numbers
   abbrev pub errors_at : Known F → Place × Use F → List CompileError
   errors_at known (at, used) = map (λ kind. record { kind = kind; at = at }) (filter (has_error known used) checked_kinds)
 
-  -- the errors of uses
+  -- the errors of uses, in the order of the uses
   abbrev pub errors_of : Known F → Uses F → List CompileError
   errors_of known uses = flat_map (errors_at known) uses
 
-  -- what is known in another state
+  -- what is known, with its state replaced by `state`
   abbrev pub known_in : Known F → State → Known F
   known_in known state = record known { state = state }
 
-  -- what is known after a name of a declaration: its data are given if it has no error
+  -- what is known after one name of a declaration, `item`: the name is declared, and has its data
+  -- if none of the item's uses has an error
   abbrev pub known_after_item : Known F → DeclKind → Decl F → Known F
   known_after_item known kind item =
       known_in known (if is_faultless (errors_of known (item_uses known kind item)) then with_item known.value kind known.state item else with_name known.value kind known.state item)
 
-  -- the errors of the names of a declaration, each with what is known before it
+  -- the errors of the names of a declaration, in order, each by what is known after the names
+  -- before it
   abbrev pub declaration_errors : Known F → DeclKind → List (Decl F) → List CompileError
   declaration_errors known kind [] = []
   declaration_errors known kind (item ∷ items) =
       errors_of known (item_uses known kind item) ++ declaration_errors (known_after_item known kind item) kind items
 
-  -- the errors of models, each with what is known before it
+  -- the errors of the models of a model statement, in order, each by what is known after the models
+  -- before it
   abbrev pub model_errors : Known F → List ModelDecl → List CompileError
   model_errors known [] = []
   model_errors known (model ∷ models) =
       errors_of known (model_uses model) ++ model_errors (known_in known (declare_model known.state model.named.name)) models
 
-  -- the errors of an act of a statement
+  -- all errors of a statement with this act
   abbrev pub act_errors : Known F → Stmt F → Act F → List CompileError
   act_errors known statement (Declare kind items) = errors_of known (kind_uses statement.at kind) ++ declaration_errors known kind items
   act_errors known statement (Model models) = model_errors known models
   act_errors known statement act = errors_of known (statement_uses statement known.state [])
 
-  -- the error of a statement, if it has one
+  -- the error of a statement, if it has one: the first by place, then by number
   abbrev pub statement_error : Known F → Stmt F → Option CompileError
   statement_error known statement = first_error (act_errors known statement statement.act)
 
-  -- whether a name of a program has a property
+  -- whether `name` is the number of a name of the program that has the property
   abbrev pub of_program : Program F → (ℕ → Bool) → ℕ → Bool
   of_program program property name = nat_lt name (length program.names) && property name
 
-  -- the names that statements of a program declare, in order
+  -- the names of the program that the statements `past` declare, in order
   abbrev pub names_before : Program F → Past F → List ℕ
   names_before program past = filter (of_program program (λ name. true)) (declared_names past)
 
-  -- the models that statements of a program declare, each with those of its equations that are
-  -- equations
+  -- the models of the program that the statements `past` declare, in order, each with those of its
+  -- equations that the state declares as equations
   abbrev pub models_before : State → Program F → Past F → List (ℕ × List ℕ)
   models_before state program past =
       map (λ (model : ℕ × List ℕ). (model.0, filter (λ equation. is_equation (declared_kind state equation)) model.1)) (filter (λ (model : ℕ × List ℕ). of_program program (λ name. true) model.0) (models_after [] past))
 
-  -- what is known before a statement of a program
+  -- what is known after these statements of a program, where `value` gives the number that a value
+  -- of `F` means, and `solvers` are the names of the solvers
   abbrev pub known_after : (F → Number) → Program F → List (List ℕ) → Past F → Known F
   known_after value program solvers past =
       record { value = value; state = state_after value (length program.names) past; declared = names_before program past; above = directly_above (state_after value (length program.names) past) (names_before program past); assigned = of_program program (is_among (dynamic_sets program)); unordered = of_program program (is_unordered past); defined = of_program program (is_defined past); models = models_before (state_after value (length program.names) past) program past; solvers = solvers }
 
-  -- the error of each of the statements that come after others, if it has one
+  -- the error of each of these statements, None if it has none, where the statements `past` come
+  -- before them
   abbrev pub each_error : (F → Number) → Program F → List (List ℕ) → Past F → List (Stmt F) → List (Option CompileError)
   each_error value program solvers past [] = []
   each_error value program solvers past (statement ∷ rest) =
       statement_error (known_after value program solvers past) statement ∷ each_error value program solvers (past ++ (statement, is_none (statement_error (known_after value program solvers past) statement)) ∷ []) rest
 
-  -- the errors of the statements that come after others
+  -- the errors of these statements, in order, at most one of each, where the statements `past` come
+  -- before them
   abbrev pub errors_after : (F → Number) → Program F → List (List ℕ) → Past F → List (Stmt F) → List CompileError
   errors_after value program solvers past statements = flat_map option_to_list (each_error value program solvers past statements)
 
-  -- the error of each statement of a program, if it has one, with solvers of these names
+  -- the error of each statement of a program, None if it has none, with solvers of these names
   abbrev pub statement_errors : (F → Number) → Program F → List (List ℕ) → List (Option CompileError)
   statement_errors value program solvers = each_error value program solvers [] program.statements.items
 
-  -- the compile errors of a program, with solvers of these names
+  -- the compile errors of a program, in order, at most one of each statement, with solvers of these
+  -- names
   abbrev pub compile_errors : (F → Number) → Program F → List (List ℕ) → List CompileError
   compile_errors value program solvers = errors_after value program solvers [] program.statements.items

@@ -8,43 +8,47 @@ use Rattle.gms_store.specs.declared.kind.SymbolKind.{SymbolKind}
 use Rattle.gms_store.specs.declared.kind.SymbolKind.TheVariants as kind
 use Rattle.gms_check.specs.declared.contexts.Context.{Context}
 
--- a number is expected: in an assignment to a parameter or an attribute, in a relation, as an
--- argument, as the amount of a lag
+-- the context of what has to be a number: the right side of an assignment to a parameter or an
+-- attribute, an operand of a relation, the amount of a lag
 abbrev pub as_number : Context
 as_number = record { numbers = true; variables = false; sets = false; membership = false }
 
--- one side of an equation, in which variables may occur
+-- the context of one side of an equation: a number, in which variables may occur
 abbrev pub as_side : Context
 as_side = record { numbers = true; variables = true; sets = false; membership = false }
 
--- a condition, or an operand of `and`, `or`, `xor` and `not`
+-- the context of a condition, of an operand of `and`, `or` and `xor`, and, except on the right side
+-- of an assignment to a set, of the operand of `not`: numbers and sets
 abbrev pub as_condition : Context
 as_condition = record { numbers = true; variables = false; sets = true; membership = false }
 
--- the right side of an assignment to a set
+-- the context of the right side of an assignment to a set: sets, `yes` and `no`
 abbrev pub as_members : Context
 as_members = record { numbers = false; variables = false; sets = true; membership = true }
 
--- a part of a sum, a product or a power, or an operand with a sign: sets may occur there only on
--- the right side of an assignment to a set
+-- the context of an operand of a sum, a product, a power or a minus sign, in an expression with the
+-- context `at`: the same, but sets may occur only on the right side of an assignment to a set
 abbrev pub as_part : Context → Context
 as_part at = record { numbers = at.numbers; variables = at.variables; sets = at.membership; membership = at.membership }
 
--- the left operand of `$`
+-- the context of the left operand of `$` in an expression with the context `at`: the same, and sets
+-- may occur too
 abbrev pub as_guarded : Context → Context
 as_guarded at = record { numbers = at.numbers; variables = at.variables; sets = true; membership = at.membership }
 
--- an argument of a function, or the body of a sum and the like: a number is expected, in an
--- equation with its variables
+-- the context of an argument of a function, or of the body of a `sum` or another fold, in an
+-- expression with the context `at`: a number, in which variables may occur if they may in the
+-- expression
 abbrev pub as_inner : Context → Context
 as_inner at = record { numbers = true; variables = at.variables; sets = false; membership = false }
 
--- the operand of `not`; on the right side of an assignment to a set it is such a right side too
+-- the context of the operand of `not` in an expression with the context `at`: `at` itself on the
+-- right side of an assignment to a set, otherwise that of a condition
 abbrev pub as_denied : Context → Context
 as_denied at = if at.membership then at else as_condition
 
--- whether a symbol of this kind may be read by this suffix there. A variable without suffix is
--- another error
+-- whether a symbol of this kind, with this suffix, may occur in the context `at`. A variable
+-- without suffix always may here: in a wrong context it has another error, Endogenous
 abbrev pub may_occur : Context → SymbolKind → Suffix → Bool
 may_occur at kind.Set suffix.None = at.sets
 may_occur at kind.Parameter suffix.None = at.numbers
@@ -59,7 +63,7 @@ may_occur at kind.Model suffix.ModelStat = at.numbers
 may_occur at kind.Model suffix.SolveStat = at.numbers
 may_occur at kind suffix = false
 
--- whether a symbol of this kind may be assigned by this suffix
+-- whether an assignment to a symbol of this kind, with this suffix, is possible
 abbrev pub may_be_assigned : SymbolKind → Suffix → Bool
 may_be_assigned kind.Set suffix.None = true
 may_be_assigned kind.Parameter suffix.None = true

@@ -9,13 +9,14 @@ use Rattle.gms_check.specs.Uses.{Use, reading, ordinal, controlling, assigning, 
 use Rattle.gms_check.specs.Past.{Known, is_among, is_dynamic}
 use Rattle.gms_scope.specs.Names.{is_index_set}
 
--- whether one of some sets is controlled already, by others or by one before it
+-- whether one of `sets` is among `controlled`, the sets that are controlled already, or occurs
+-- twice
 abbrev pub is_controlled_twice : List ℕ → List ℕ → Bool
 is_controlled_twice controlled [] = false
 is_controlled_twice controlled (name ∷ sets) = is_among controlled name || is_controlled_twice (controlled ++ name ∷ []) sets
 
 module _ {F : Type 0} where
-  -- Uncontrolled: nothing controls a set that is an index, or of which `ord` is taken
+  -- Uncontrolled: a set that is an index, or the argument of `ord`, is not controlled
   abbrev pub uncontrolled : Known F → Use F → Bool
   uncontrolled known (reading context controlled name suffix indices) = list_any (λ index. not (is_among controlled index)) (index_sets indices)
   uncontrolled known (ordinal context controlled name) = not (is_among controlled name)
@@ -33,13 +34,13 @@ module _ {F : Type 0} where
   lagged_sets (set name rest) = lagged_sets rest
   lagged_sets (lagged name op at amount rest) = name ∷ lagged_sets rest
 
-  -- whether a set is ordered: one-dimensional, not dynamic, and its labels are given in the order
-  -- of all labels
+  -- whether a set is ordered: one-dimensional, not dynamic, and with its labels given in the order
+  -- in which labels first occur in the program
   abbrev pub is_ordered : Known F → ℕ → Bool
   is_ordered known name =
       is_index_set known.state name && (not (is_dynamic known name) && not (known.unordered (base_of known.state name)))
 
-  -- NotOrdered: a set that is not ordered has a lag, or its `ord` is taken
+  -- NotOrdered: a set that is not ordered has a lag, or is the argument of `ord`
   abbrev pub not_ordered : Known F → Use F → Bool
   not_ordered known (reading context controlled name suffix indices) = list_any (λ index. not (is_ordered known index)) (lagged_sets indices)
   not_ordered known (assigning name suffix indices) = list_any (λ index. not (is_ordered known index)) (lagged_sets indices)

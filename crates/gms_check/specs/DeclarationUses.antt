@@ -19,63 +19,68 @@ use Rattle.gms_check.specs.Past.{Known}
 use Rattle.gms_scope.specs.Names.{is_index_set}
 use Rattle.gms_check.specs.Domains.{is_wrong_count}
 
--- whether a position is of any label, or of a set that can be in a domain
+-- whether a position of a domain admits any label (None), or has a one-dimensional set
 abbrev pub is_usable_in : State → Option ℕ → Bool
 is_usable_in state None = true
 is_usable_in state (Some name) = is_index_set state name
 
--- whether data can be given at these positions: there are at most 10, and their sets can be in a
--- domain
+-- whether data can be checked against a domain: it has at most 10 positions, and each set is
+-- one-dimensional
 abbrev pub are_usable_in : State → List (Option ℕ) → Bool
 are_usable_in state domain = nat_le (length domain) 10 && list_all (is_usable_in state) domain
 
--- whether a declaration is of names whose values are continuous, or of no variables
+-- whether this kind of declaration is not of discrete variables
 abbrev pub is_continuous : DeclKind → Bool
 is_continuous declaring.Discrete = false
 is_continuous kind = true
 
 module _ {F : Type 0} where
-  -- the use of a set of a domain, at a position
+  -- the use of the set at a position of a written domain; none at a position without a set
   abbrev pub domain_use : Option Named → Uses F
   domain_use None = []
   domain_use (Some named) = (named.at, bounding named.name) ∷ []
 
-  -- whether data can be given at these positions, by what is known
+  -- whether data can be checked against a domain, by what is known: at most 10 positions, and each
+  -- set one-dimensional
   abbrev pub are_usable : Known F → List (Option ℕ) → Bool
   are_usable known domain = are_usable_in known.state domain
 
-  -- whether an item has as many parts as there are positions
+  -- whether an item of data has one list of labels for each position of the domain, and at most 10
+  -- such lists
   abbrev pub has_all_parts : List (Option ℕ) → Item F → Bool
   has_all_parts domain item = not (is_wrong_count (length domain) (length item.parts))
 
-  -- the error of a list of data, if it has one
+  -- the use that reports the fault of a list of data; none if it has no fault
   abbrev pub failure : Result (ExpandedData F) SetFault → Uses F
   failure (Ok given) = []
   failure (Err fault) = (fault.at, failing fault.error) ∷ []
 
-  -- the error of the elements that items give at these positions; only items before the first that
-  -- lacks parts count
+  -- the use that reports the fault of a list of data, if it has one. It is a fault of the items
+  -- before the first one with a wrong number of positions; none is reported if the domain itself is
+  -- wrong
   abbrev pub expansion_uses : Known F → List (Option ℕ) → List (Item F) → Uses F
   expansion_uses known domain items =
       if are_usable known domain then failure (expanded known.state domain (take_while (has_all_parts domain) items)) else []
 
-  -- the items of data at these positions: each has its parts; those before the first that lacks
-  -- parts give elements, or an error
+  -- the uses of the items of data of a name with this domain: the number of positions of each item,
+  -- and after these the fault of the list, if it has one
   abbrev pub data_uses : Known F → List (Option ℕ) → List (Item F) → Uses F
   data_uses known domain items =
       map (λ (item : Item F). (item.at, placing (length domain) (length item.parts))) items ++ expansion_uses known domain items
 
-  -- the uses of a name that is declared, with its domain and its data
+  -- the uses of one name in a declaration of this kind: the name, the sets of its domain, and its
+  -- data
   abbrev pub item_uses : Known F → DeclKind → Decl F → Uses F
   item_uses known kind item =
       (item.named.at, naming kind item.named.name (names_of item.domain)) ∷ (flat_map domain_use item.domain ++ data_uses known (positions_of kind (names_of item.domain)) item.items)
 
-  -- the use of a declaration, by its kind
+  -- the use of the kind of a declaration at this place: `not_continuous` if the kind is of discrete
+  -- variables, otherwise none
   abbrev pub kind_uses : Place → DeclKind → Uses F
   kind_uses at declaring.Discrete = (at, not_continuous) ∷ []
   kind_uses at kind = []
 
-  -- the uses of a model that is declared, with its equations
+  -- the uses of one model in a model statement: its name, and the equations that it lists
   abbrev pub model_uses : ModelDecl → Uses F
   model_uses model =
       (model.named.at, modelling model.named.name) ∷ map (λ (equation : Named). (equation.at, listing equation.name)) model.equations

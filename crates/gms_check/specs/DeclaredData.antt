@@ -21,14 +21,15 @@ use Rattle.gms_store.specs.State.{zero}
 use Rattle.gms_check.specs.Checked.{FollowsIn}
 use Rattle.gms_check.specs.Past.{is_among, names_declared}
 
--- whether a declaration is of names that have values
+-- whether a declaration of this kind is of parameters: parameters, scalars or a table
 abbrev pub has_values : DeclKind → Bool
 has_values declaring.Parameter = true
 has_values declaring.Scalar = true
 has_values declaring.Table = true
 has_values kind = false
 
--- the type of the variables that a declaration is of
+-- the type of the variables that a declaration of this kind declares; None if it declares no
+-- variables
 abbrev pub type_of : DeclKind → Option VariableType
 type_of declaring.Free = Some Free
 type_of declaring.Positive = Some Positive
@@ -37,18 +38,19 @@ type_of declaring.Discrete = Some Discrete
 type_of kind = None
 
 module _ {F : Type 0} where
-  -- what items of data give at a tuple: the value of the item that has it, or none if the item has
-  -- no value; nothing if no item has the tuple
+  -- what items of data give at the tuple t: the value of the first item that has the tuple, where
+  -- an inner None is an item without value; None if no item has the tuple
   abbrev pub datum_at : List (Item F) → List ℕ → Option (Option (Ext F))
   datum_at [] t = None
   datum_at (item ∷ items) t = if has (tuple_product item.parts) t then Some item.value else datum_at items t
 
-  -- whether a tuple is put into a set: the item that has it has no value
+  -- whether a datum makes its tuple a member of a set: an item has the tuple, without a value
   abbrev pub is_put_in : Option (Option (Ext F)) → Bool
   is_put_in (Some None) = true
   is_put_in datum = false
 
-  -- A statement of a program declares a name, of a kind, with a domain and data.
+  -- A statement of the program is a declaration of this kind, and `item` is the declaration of one
+  -- of its names, with the name's domain and data.
   pub record Declares (program : Program F) (kind : DeclKind) (item : Decl F) : Type 0 where
     pub before : List (Stmt F)
     pub statement : Stmt F
@@ -57,17 +59,18 @@ module _ {F : Type 0} where
     pub rest : List (Decl F)
     pub act : statement.act ≡ Declare kind (first ++ item ∷ rest)
 
-  -- every declaration of a name leaves its type free
+  -- every declaration of this name in the program is one of free variables
   abbrev pub IsFree : Program F → ℕ → Type 0
   IsFree program name = (kind : DeclKind) (item : Decl F) → Declares program kind item → item.named.name ≡ name → type_of kind ≡ Some Free
 
-  -- no statement declares a name
+  -- no statement of the program declares this name
   abbrev pub IsUndeclared : Program F → ℕ → Type 0
   IsUndeclared program name =
       (before : List (Stmt F)) (statement : Stmt F) → FollowsIn program before statement → is_among (names_declared statement.act) name ≡ false
 
 module _ {F : Type 0} (value : F → Number) where
-  -- the value of a parameter, from what items give it: 0 if they give none
+  -- the value that a datum gives to a parameter; 0 if no item has the tuple, or the item has no
+  -- value
   abbrev pub value_put : Option (Option (Ext F)) → Extended
   value_put (Some (Some x)) = extended value x
   value_put datum = zero

@@ -15,15 +15,16 @@ abbrev pub is_wrong_count : ℕ → ℕ → Bool
 is_wrong_count expected count = not (count == expected) || nat_lt 10 count
 
 module _ {F : Type 0} where
-  -- how many indices there are
+  -- how many indices a reference or a left side has
   abbrev pub index_count : Indices F → ℕ
   index_count no_index = 0
   index_count (label n rest) = index_count rest + 1
   index_count (set name rest) = index_count rest + 1
   index_count (lagged name op at amount rest) = index_count rest + 1
 
-  -- WrongArity: there are more or fewer indices or parts than the name has positions, or more than
-  -- 10; a control has more than 10 sets
+  -- WrongArity: a reference or a left side has more or fewer indices, or an item of data more or
+  -- fewer positions, than the name has positions, or more than 10; a control has more than 10 sets;
+  -- a name is declared with more than 10 positions
   abbrev pub wrong_arity : Known F → Use F → Bool
   wrong_arity known (reading context controlled name suffix indices) = is_wrong_count (length (positions known.state name)) (index_count indices)
   wrong_arity known (assigning name suffix indices) = is_wrong_count (length (positions known.state name)) (index_count indices)
@@ -33,22 +34,26 @@ module _ {F : Type 0} where
   wrong_arity known (placing expected count) = is_wrong_count expected count
   wrong_arity known used = false
 
-  -- whether some index set does not fit its position of a name
+  -- whether some set among the indices of `name` may not be at its position: it is neither the set
+  -- that `domain` has there nor below that
   abbrev pub has_unfit_set : Known F → ℕ → List (Option ℕ) → Indices F → Bool
   has_unfit_set known name domain indices = have_unfit_set known.state known.declared known.above name domain indices
 
-  -- whether some label does not fit its position of a name
+  -- whether some label among the indices of `name` may not be at its position: it is no member of
+  -- the set that `domain` has there
   abbrev pub has_unfit_label : Known F → ℕ → List (Option ℕ) → Indices F → Bool
   has_unfit_label known name domain indices = have_unfit_label known.state known.declared name domain indices
 
-  -- DomainOfSet: a set is at a position whose set it is not below
+  -- DomainOfSet: an index is a set that is neither the set of its position nor below that by domain
+  -- sets
   abbrev pub domain_of_set : Known F → Use F → Bool
   domain_of_set known (reading context controlled name suffix indices) = has_unfit_set known name (positions known.state name) indices
   domain_of_set known (assigning name suffix indices) = has_unfit_set known name (positions known.state name) indices
   domain_of_set known (defining name indices) = has_unfit_set known name (positions known.state name) indices
   domain_of_set known used = false
 
-  -- DomainOfLabel: a label is at a position whose set does not have it
+  -- DomainOfLabel: an index, or an element of data, has a label that the set of its position does
+  -- not have
   abbrev pub domain_of_label : Known F → Use F → Bool
   domain_of_label known (reading context controlled name suffix indices) = has_unfit_label known name (positions known.state name) indices
   domain_of_label known (assigning name suffix indices) = has_unfit_label known name (positions known.state name) indices
@@ -56,7 +61,7 @@ module _ {F : Type 0} where
   domain_of_label known (failing Outside) = true
   domain_of_label known used = false
 
-  -- DynamicDomain: a set that the program assigns is in a domain
+  -- DynamicDomain: a domain has a set that some statement of the program assigns
   abbrev pub dynamic_domain : Known F → Use F → Bool
   dynamic_domain known (bounding name) = is_dynamic known name
   dynamic_domain known used = false

@@ -5,7 +5,7 @@ use Rattle.gms_check.specs.declared.error.ErrorKind.{ErrorKind}
 use Rattle.gms_check.specs.declared.error.ErrorKind.TheVariants.{UnknownName, Redeclared, WrongKind, WrongArity, DomainOfSet, DomainOfLabel, Uncontrolled, ControlledTwice, NotOrdered, DynamicDomain, Nonlinear, Discrete, ModelType, NotDefined, DefinedTwice, Objective, UnknownSolver, OptionRange, Endogenous, Function, DataFault, Restart}
 use Rattle.gms_check.specs.declared.error.CompileError.{CompileError}
 
--- the number of an error
+-- the number of a compile error
 abbrev pub error_code : ErrorKind → ℕ
 error_code UnknownName = 1
 error_code Redeclared = 2
@@ -30,7 +30,7 @@ error_code Function = 20
 error_code DataFault = 21
 error_code Restart = 22
 
--- the name of an error
+-- the name of a compile error
 abbrev pub error_name : ErrorKind → List ℕ
 error_name UnknownName = codes "UnknownName"
 error_name Redeclared = codes "Redeclared"
@@ -67,17 +67,18 @@ same_place a b = a.line == b.line && a.column == b.column
 abbrev pub comes_first : CompileError → CompileError → Bool
 comes_first a b = precedes a.at b.at || same_place a.at b.at && nat_lt (error_code a.kind) (error_code b.kind)
 
--- an error, or another one if that comes first
+-- `error`, or `other` if there is one and it comes before `error`
 abbrev pub earlier : CompileError → Option CompileError → CompileError
 earlier error None = error
 earlier error (Some other) = if comes_first other error then other else error
 
--- the earlier of two errors, if there are any
+-- the one of two errors that comes first; None if there is neither
 abbrev pub sooner : Option CompileError → Option CompileError → Option CompileError
 sooner None other = other
 sooner (Some error) other = Some (earlier error other)
 
--- the first of some errors, if there is one
+-- the error of the list that comes first: by its place, and at one place by its number; None if the
+-- list is empty
 abbrev pub first_error : List CompileError → Option CompileError
 first_error [] = None
 first_error (error ∷ errors) = Some (earlier error (first_error errors))

@@ -6,7 +6,9 @@ use Rattle.gms_store.specs.State.{State}
 use Rattle.gms_scope.specs.Below.{set_fits_position, label_fits_position}
 
 module _ {F : Type 0} where
-  -- whether some index set does not fit its position
+  -- whether some set among these indices of `name` may not be at its position. The list has, in
+  -- order, the set of the position of each index, None for a position that admits any label;
+  -- `declared` are the declared names, in order; `above` gives the domain set of each set
   abbrev pub have_unfit_set : State → List ℕ → (ℕ → Option ℕ) → ℕ → List (Option ℕ) → Indices F → Bool
   have_unfit_set state declared above name (position ∷ rest) (label n indices) = have_unfit_set state declared above name rest indices
   have_unfit_set state declared above name (position ∷ rest) (set index indices) =
@@ -15,7 +17,9 @@ module _ {F : Type 0} where
       not (set_fits_position state declared above name position index) || have_unfit_set state declared above name rest indices
   have_unfit_set state declared above name domain indices = false
 
-  -- whether some label does not fit its position
+  -- whether some label among these indices of `name` may not be at its position. The list has, in
+  -- order, the set of the position of each index, None for a position that admits any label;
+  -- `declared` are the declared names, in order
   abbrev pub have_unfit_label : State → List ℕ → ℕ → List (Option ℕ) → Indices F → Bool
   have_unfit_label state declared name (position ∷ rest) (label n indices) =
       not (label_fits_position state declared name position n) || have_unfit_label state declared name rest indices

@@ -21,22 +21,23 @@ abbrev pub is_variable_kind : SymbolKind → Bool
 is_variable_kind kind.Variable = true
 is_variable_kind kind = false
 
--- whether there are no indices
+-- whether a reference has no indices
 abbrev pub has_no_indices : {F : Type 0} → Indices F → Bool
 has_no_indices no_index = true
 has_no_indices indices = false
 
--- whether there are no positions
+-- whether a domain has no positions
 abbrev pub is_without_positions : {X : Type 0} → List X → Bool
 is_without_positions [] = true
 is_without_positions (x ∷ xs) = false
 
--- how many parts there are
+-- the number of operands, arguments or conditions of a node
 abbrev pub part_count : {F : Type 0} → Parts F → ℕ
 part_count no_part = 0
 part_count (part mark tree rest) = part_count rest + 1
 
--- whether a function takes `count` arguments; one that is left out takes none
+-- whether a function may have `count` arguments; a function that this language leaves out takes no
+-- number of arguments, not even 0
 abbrev pub takes_arguments : Function → ℕ → Bool
 takes_arguments function.Abs count = count == 1
 takes_arguments function.Max count = nat_lt 1 count
@@ -51,29 +52,33 @@ takes_arguments function.Trunc count = count == 1
 takes_arguments function.Sign count = count == 1
 takes_arguments function.NotInProfile count = false
 
--- whether a reference may be the amount of a lag on the left: a scalar may. A variable without
--- suffix is another error
+-- whether a symbol of this kind may be the amount of a lag on the left of an assignment or a
+-- definition: a parameter if it is a scalar (`scalar`). A variable may here: it has another error,
+-- Endogenous
 abbrev pub may_shift : SymbolKind → Bool → Bool
 may_shift kind.Parameter scalar = scalar
 may_shift kind.Variable scalar = true
 may_shift kind scalar = false
 
 module _ {F : Type 0} where
-  -- whether an amount of a lag on the left is a whole literal or a scalar
+  -- whether an expression may be the amount of a lag on the left of an assignment or a definition:
+  -- a literal integer or a scalar (or a variable without suffix or indices, which has another
+  -- error, Endogenous)
   abbrev pub is_target_amount : Known F → Tree F → Bool
   is_target_amount known (number n) = is_whole (known.value n)
   is_target_amount known (reference at name suffix.None indices) =
       may_shift (declared_kind known.state name) (is_without_positions (positions known.state name) && has_no_indices indices)
   is_target_amount known tree = false
 
-  -- whether some index is no one-dimensional set
+  -- whether some of these names is not that of a one-dimensional set
   abbrev pub has_wrong_set : Known F → List ℕ → Bool
   has_wrong_set known names = list_any (λ name. not (is_index_set known.state name)) names
 
-  -- WrongKind: the context does not admit this kind: a symbol by its suffix, a number or an
-  -- infinity, `yes` and `no`; a set of several positions as an index, in a control or in a domain;
-  -- on the left of an assignment an attribute of an equation, and an amount of a lag that is not a
-  -- whole literal or a scalar
+  -- WrongKind: a symbol with its suffix, a number, an infinity, `yes` or `no`, a function, a fold
+  -- or an operation occurs in a context that does not admit it; `ord`, `card` or an alias is of no
+  -- set; an index, a control or a domain has a name that is no one-dimensional set; an amount of a
+  -- lag on the left is neither a literal integer nor a scalar; what is assigned, defined, listed in
+  -- a model, solved, optimized or displayed is of another kind
   abbrev pub wrong_kind : Known F → Use F → Bool
   wrong_kind known (literal context) = not context.numbers
   wrong_kind known (truth context) = not context.membership
@@ -101,12 +106,12 @@ module _ {F : Type 0} where
   wrong_kind known (showing name suffix) = not (may_occur as_condition (declared_kind known.state name) suffix)
   wrong_kind known used = false
 
-  -- Discrete: variables that are binary, integer or of a special ordered set
+  -- Discrete: variables are declared as binary, integer or of a special ordered set
   abbrev pub discrete : Known F → Use F → Bool
   discrete known not_continuous = true
   discrete known used = false
 
-  -- Function: a function that is left out, or that takes another number of arguments
+  -- Function: a function is left out of this language, or has a wrong number of arguments
   abbrev pub wrong_function : Known F → Use F → Bool
   wrong_function known (calling context function args) = not (takes_arguments function (part_count args))
   wrong_function known used = false

@@ -11,13 +11,14 @@ use Rattle.gms_ast.specs.Trees as tree
 use Rattle.gms_store.specs.State.{State}
 use Rattle.gms_scope.specs.Names.{is_index_set}
 
--- whether an amount of a lag is a number or a scalar
+-- whether an expression, the amount of a lag, is a number or a name without suffix and indices
 abbrev pub is_fixed_amount : {F : Type 0} → tree.Tree F → Bool
 is_fixed_amount (tree.number n) = true
 is_fixed_amount (tree.reference at name suffix.None tree.no_index) = true
 is_fixed_amount e = false
 
--- each set among indices has one dimension, and each amount of a lag is a number or a scalar
+-- indices that the left side of an assignment may have: each set among them is one-dimensional, and
+-- each amount of a lag is a number or a name without suffix and indices
 abbrev pub AreTargetIndices : {F : Type 0} → State → tree.Indices F → Type 0
 AreTargetIndices state tree.no_index = Unit {0}
 AreTargetIndices state (tree.label label rest) = AreTargetIndices state rest
@@ -25,7 +26,7 @@ AreTargetIndices state (tree.set name rest) = (is_index_set state name ≡ true)
 AreTargetIndices state (tree.lagged name op at amount rest) = (is_index_set state name ≡ true) × ((is_fixed_amount amount ≡ true) × AreTargetIndices state rest)
 
 module _ {F : Type 0} where
-  -- A loop whose body has a statement with a property.
+  -- The statement `outer` is a loop, and the statement `next` in its body has the property `Inner`.
   pub record IsIn (Inner : Stmt F → Type 0) (outer : Stmt F) : Type 0 where
     pub control : Control F
     pub body : Vec (Stmt F) Global
@@ -36,7 +37,8 @@ module _ {F : Type 0} where
     pub occurs : body.items ≡ before ++ next ∷ rest
     pub holds : Inner next
 
-  -- a statement is another one, or `depth` loops deep in it
+  -- the statement `inner` is `outer` itself if `depth` is 0; otherwise it is in the body of the
+  -- innermost of exactly `depth` nested loops, of which `outer` is the outermost
   abbrev pub IsNestedIn : ℕ → Stmt F → Stmt F → Type 0
   IsNestedIn zero inner outer = outer ≡ inner
   IsNestedIn (suc depth) inner outer = IsIn (IsNestedIn depth inner) outer

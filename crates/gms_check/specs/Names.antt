@@ -17,26 +17,27 @@ abbrev pub is_variable : Content → Bool
 is_variable (variable_of type entries) = true
 is_variable content = false
 
--- whether two positions are of one set, or both of any label
+-- whether two positions have the same set, an alias replaced by its set, or both admit any label
 abbrev pub same_position : State → Option ℕ → Option ℕ → Bool
 same_position state None None = true
 same_position state (Some a) (Some b) = base_of state a == base_of state b
 same_position state a b = false
 
--- whether two domains are equally long and have one set at each position, an alias counting as its
--- set
+-- whether two domains have as many positions, and at each the same set, or both any label; an alias
+-- is replaced by its set
 abbrev pub same_domain : State → List (Option ℕ) → List (Option ℕ) → Bool
 same_domain state [] [] = true
 same_domain state (a ∷ as_) (b ∷ bs) = same_position state a b && same_domain state as_ bs
 same_domain state as_ bs = false
 
--- whether a domain is left out, or the same as another
+-- whether the written domain of a later declaration is empty, or has the positions of the domain
+-- `old` of the name
 abbrev pub repeats_domain : State → List (Option ℕ) → List (Option ℕ) → Bool
 repeats_domain state [] old = true
 repeats_domain state domain old = same_domain state domain old
 
 module _ {F : Type 0} where
-  -- the names that a use requires to be declared before
+  -- the names in a use that earlier statements have to declare; none for the names of an alias
   abbrev pub names_used : Use F → List ℕ
   names_used (reading context controlled name suffix indices) = name ∷ index_sets indices
   names_used (ordinal context controlled name) = name ∷ []
@@ -51,21 +52,22 @@ module _ {F : Type 0} where
   names_used (showing name suffix) = name ∷ []
   names_used used = []
 
-  -- UnknownName: a name that no statement before declares, of an alias both names; a word that is
-  -- no option
+  -- UnknownName: no statement before declares a name that is used, or either name of an alias; or
+  -- the word of an option is that of no option
   abbrev pub unknown_name : Known F → Use F → Bool
   unknown_name known (first_alias first second) = has_no_declaration known.state first && has_no_declaration known.state second
   unknown_name known (option_word word) = not (is_option word)
   unknown_name known used = list_any (has_no_declaration known.state) (names_used used)
 
-  -- whether a declaration gives a variable a type once more: its type is free, and its domain is
-  -- left out or the same
+  -- whether a declaration of this kind may give a type to a variable that is declared before: the
+  -- variable is free so far, and the declaration is of variables and has no domain or the
+  -- variable's own
   abbrev pub may_be_typed : Known F → DeclKind → ℕ → List (Option ℕ) → Bool
   may_be_typed known kind name domain =
       is_free (symbol_at known.state name).content && (is_variable (content_of kind) && repeats_domain known.state domain (positions known.state name))
 
-  -- Redeclared: a name that is declared already, except for a variable that gets a type again; of
-  -- an alias both names are declared
+  -- Redeclared: a name is declared that is declared before, except for a variable that may still be
+  -- given a type; or both names of an alias are declared before
   abbrev pub redeclared : Known F → Use F → Bool
   redeclared known (naming kind name domain) = not (has_no_declaration known.state name) && not (may_be_typed known kind name domain)
   redeclared known (modelling name) = not (has_no_declaration known.state name)

@@ -7,11 +7,11 @@ use Rattle.gq_number.specs.Number.{Number}
 use Rattle.gms_ast.specs.declared.program.Setting.{Setting}
 use Rattle.gms_ast.specs.declared.program.Setting.TheVariants as setting
 
--- whether a word is one of some words, letter case ignored
+-- whether a word is one of these words, letter case ignored
 abbrev pub is_one_of : List (List ℕ) → List ℕ → Bool
 is_one_of words word = list_any (str_eq_ignore_ascii_case word) words
 
--- the options that are set to an integer up to 2,147,483,647
+-- the options that are set to an integer from 0 to 2,147,483,647
 abbrev pub counts : List (List ℕ)
 counts = codes "limrow" ∷ codes "limcol" ∷ codes "iterlim" ∷ []
 
@@ -20,7 +20,8 @@ abbrev pub ignored : List (List ℕ)
 ignored =
     codes "reslim" ∷ codes "optcr" ∷ codes "optca" ∷ codes "domlim" ∷ codes "bratio" ∷ codes "sysout" ∷ codes "solslack" ∷ codes "nlp" ∷ codes "mip" ∷ codes "rmip" ∷ codes "dnlp" ∷ codes "mcp" ∷ []
 
--- the other options
+-- the options that admit other values: for `decimals` a number of decimals, for `solprint` `on` or
+-- `off`, for `lp` the name of a solver
 abbrev pub other_options : List (List ℕ)
 other_options = codes "decimals" ∷ codes "solprint" ∷ codes "lp" ∷ []
 
@@ -42,29 +43,30 @@ abbrev pub is_whole_up_to : ℕ → Number → Bool
 is_whole_up_to most x = is_whole x && is_up_to most x.numerator
 
 module _ {F : Type 0} where
-  -- whether an option is set to `on` or `off`
+  -- whether the value of an option is the word `on` or `off`
   abbrev pub is_switch : Setting F → Bool
   is_switch (setting.Number at x) = false
   is_switch (setting.Name word) = is_one_of (codes "on" ∷ codes "off" ∷ []) word.text
 
-  -- whether an option is set to a word
+  -- whether the value of an option is a word
   abbrev pub is_worded : Setting F → Bool
   is_worded (setting.Number at x) = false
   is_worded (setting.Name word) = true
 
 module _ {F : Type 0} (value : F → Number) where
-  -- whether an option is set to an integer from 0 to `most`
+  -- whether the value of an option is an integer from 0 to `most`
   abbrev pub is_count_up_to : ℕ → Setting F → Bool
   is_count_up_to most (setting.Number at x) = is_whole_up_to most (value x)
   is_count_up_to most (setting.Name word) = false
 
-  -- whether an option is set to a value within its range; for a word that is no option, any value
-  -- is
+  -- whether the value of an option is in the range of the option of this word: an integer from 0 to
+  -- 2,147,483,647 or, for `decimals`, to 8; for `solprint` `on` or `off`; for `lp` a word; any
+  -- value for an option without effect or a word that is no option
   abbrev pub is_in_range : List ℕ → Setting F → Bool
   is_in_range word setting =
       if is_one_of counts word then is_count_up_to 2147483647 setting else if str_eq_ignore_ascii_case word (codes "decimals") then is_count_up_to 8 setting else if str_eq_ignore_ascii_case word (codes "solprint") then is_switch setting else if str_eq_ignore_ascii_case word (codes "lp") then is_worded setting else true
 
--- whether an option is set to a word that is none of some names
+-- whether the value of an option is a word that is none of these names, letter case ignored
 abbrev pub is_none_of : {F : Type 0} → List (List ℕ) → Setting F → Bool
 is_none_of names (setting.Number at x) = false
 is_none_of names (setting.Name word) = not (is_one_of names word.text)

@@ -1,7 +1,7 @@
--- What the statements before a statement declare, define and give (GAMS User's Guide, "Set
+-- What the statements before a statement declare, define and give as data (GAMS User's Guide, "Set
 -- Definition", "Data Entry: Parameters, Scalars and Tables", "Equations", "Model and Solve
--- Statements"). Names of a statement with an error count as declared, and its data as not given;
--- this is the project's own rule.
+-- Statements"). The names of a statement with an error count as declared, and its data as not
+-- given; this is the project's own rule.
 use Rattle.std.specs.Prelude.{ℕ, Bool, true, false, not, ◌&&◌, ◌==◌, nat_lt, List, [], ◌∷◌, ◌++◌, map, flat_map, filter, find, Option, Some, None, Result, Ok, Err, option_map, unwrap_or, if◌then◌else◌}
 use Rattle.std.specs.List.{fold, list_any}
 use Rattle.gq_number.specs.Number.{Number}
@@ -20,22 +20,22 @@ use Rattle.gms_set.specs.declared.fault.SetFault.{SetFault}
 use Rattle.gms_set.specs.Expansion.{ExpandedData, expanded}
 use Rattle.gms_scope.specs.Data.{given_to, is_ascending, labels_of_items}
 
--- statements in order, each with whether it has no error
+-- the statements before a statement, in order, each with whether it has no error
 abbrev pub Past : Type 0 → Type 0
 Past F = List (Stmt F × Bool)
 
 -- ---- names
 
--- the numbers of names
+-- the numbers of these names
 abbrev pub numbers_of_names : List Named → List ℕ
 numbers_of_names names = map (λ (named : Named). named.name) names
 
--- whether a name is one of these
+-- whether a name is one of these names
 abbrev pub is_among : List ℕ → ℕ → Bool
 is_among names name = list_any (λ other. other == name) names
 
--- the equations of a model: those that are listed, or all that are declared before; none where its
--- statement has an error
+-- the equations of a model: the listed ones, or for `/all/` the equations `declared` before; none
+-- if its statement has an error (false)
 abbrev pub equations_listed : List ℕ → Bool → ModelDecl → List ℕ
 equations_listed declared true model = if model.all then declared else numbers_of_names model.equations
 equations_listed declared false model = []
@@ -59,93 +59,98 @@ module _ {F : Type 0} where
   equations_declared (Declare declaring.Equation items) = map (λ (item : Decl F). item.named.name) items
   equations_declared act = []
 
-  -- whether an act defines an equation
+  -- whether an act defines the equation of this name
   abbrev pub defines : ℕ → Act F → Bool
   defines name (Define equation indices condition left_at left side right_at right) = equation.name == name
   defines name act = false
 
-  -- whether some statement before defines an equation, with an error or without
+  -- whether some statement of `past` defines the equation of this name, with an error or without
   abbrev pub is_defined : Past F → ℕ → Bool
   is_defined past name = list_any (λ p. defines name p.0.act) past
 
   -- ---- models
 
-  -- the models that an act declares, each with its equations
+  -- the models that an act declares, each with its equations, where the equations `declared` are
+  -- declared before it, and `sound` is whether its statement has no error
   abbrev pub models_declared_by : List ℕ → Bool → Act F → List (ℕ × List ℕ)
   models_declared_by declared sound (Model models) = map (λ (model : ModelDecl). (model.named.name, equations_listed declared sound model)) models
   models_declared_by declared sound act = []
 
-  -- the models that statements declare, where these equations are declared before them
+  -- the models that these statements declare, each with its equations, where the equations
+  -- `declared` are declared before them
   abbrev pub models_after : List ℕ → Past F → List (ℕ × List ℕ)
   models_after declared [] = []
   models_after declared (p ∷ past) = models_declared_by declared p.1 p.0.act ++ models_after (declared ++ equations_declared p.0.act) past
 
   -- ---- the order of a set's labels
 
-  -- whether an act gives a set its labels in another order than that of all labels
+  -- whether an act declares the set of this name with its labels in another order than that in
+  -- which labels first occur in the program
   abbrev pub gives_unordered : ℕ → Act F → Bool
   gives_unordered name (Declare declaring.Set items) = list_any (λ (item : Decl F). item.named.name == name && not (is_ascending (labels_of_items item.items))) items
   gives_unordered name act = false
 
-  -- whether a statement without an error gives a set its labels in another order than that of all
-  -- labels
+  -- whether some statement without an error declares the set of this name with its labels in
+  -- another order than that in which labels first occur in the program
   abbrev pub is_unordered : Past F → ℕ → Bool
   is_unordered past name = list_any (λ p. p.1 && gives_unordered name p.0.act) past
 
 module _ {F : Type 0} (value : F → Number) where
   -- ---- the state
 
-  -- the state after the data of a name
+  -- the state after the expanded data of a name were written; the state unchanged if the expansion
+  -- has a fault
   abbrev pub with_data : State → ℕ → Result (ExpandedData F) SetFault → State
   with_data state name (Ok given) = given_to value name state given
   with_data state name (Err fault) = state
 
-  -- the state after a name was declared without its data
+  -- the state after one name of a declaration of this kind was declared, without its data
   abbrev pub with_name : DeclKind → State → Decl F → State
   with_name kind state item = declare kind (names_of item.domain) state item.named.name
 
-  -- the state after a name was declared with its data
+  -- the state after one name of a declaration of this kind was declared, with its data
   abbrev pub with_item : DeclKind → State → Decl F → State
   with_item kind state item =
       with_data (with_name kind state item) item.named.name (expanded state (positions_of kind (names_of item.domain)) item.items)
 
-  -- the state after an act that has no error
+  -- the state after the declarations of an act that has no error, with their data
   abbrev pub after_act : State → Act F → State
   after_act state (Declare kind items) = fold (with_item kind) state items
   after_act state act = declared_by state act
 
-  -- the state after a statement: where it has an error its names are declared, and its data are not
-  -- given
+  -- the state after the declarations of a statement, with their data if it has no error (`sound`),
+  -- otherwise without
   abbrev pub after_statement : State → Stmt F × Bool → State
   after_statement state (statement, sound) = if sound then after_act state statement.act else declared_by state statement.act
 
-  -- the state after statements, from one of `names` names in which nothing is declared
+  -- the state after the declarations of these statements, in a program of `names` names
   abbrev pub state_after : ℕ → Past F → State
   state_after names past = fold after_statement (blank_state names) past
 
 -- What is known before a statement.
 pub record Known (F : Type 0) : Type 0 where
-  -- the numbers that values mean
+  -- the number that a value of `F` means
   pub value : F → Number
-  -- what the statements before declare and give; within a declaration, also what the names before
-  -- it do
+  -- the names that the statements before declare, with their data; within a declaration, also the
+  -- names before
   pub state : State
-  -- the names that they declare, in order
+  -- the names that the statements before declare, in order
   pub declared : List ℕ
-  -- the set that a one-dimensional set is directly below
+  -- the domain set of a one-dimensional set, if any
   pub above : ℕ → Option ℕ
-  -- the sets that some statement of the program assigns
+  -- whether some statement of the program assigns the set of this number
   pub assigned : ℕ → Bool
-  -- the sets whose labels are given in another order than that of all labels
+  -- whether the set of this number has its labels in another order than that in which labels first
+  -- occur
   pub unordered : ℕ → Bool
-  -- the equations that the statements before define
+  -- whether a statement before defines the equation of this number
   pub defined : ℕ → Bool
-  -- the models that they declare, each with its equations
+  -- the models that the statements before declare, each with its equations
   pub models : List (ℕ × List ℕ)
   -- the names of the solvers
   pub solvers : List (List ℕ)
 
 module _ {F : Type 0} where
-  -- whether a set is dynamic, an alias as its set
+  -- whether a set, or the set of an alias, is dynamic: some statement of the program assigns it
   abbrev pub is_dynamic : Known F → ℕ → Bool
   is_dynamic known name = known.assigned (base_of known.state name)

@@ -32,16 +32,16 @@ use Rattle.gms_check.specs.Uses.{sets_of_control}
 
 -- ---- in an expression
 
--- What reads the labels that sets stand for.
+-- What may use the controlled sets of its place: a reference or `ord`.
 pub data Asking (F : Type 0) : Type 0 where
   -- a reference: a name, a suffix and indices
   reads : ℕ → Suffix → Indices F → Asking F
-  -- the place of a set's label in it, `ord`
+  -- `ord` of a set, the position of its label
   orders : ℕ → Asking F
 
 mutual
-  -- It occurs in an expression around which the sets `around` are controlled; at its place the sets
-  -- `within` are.
+  -- A reference or `ord` occurs in an expression. The sets `around` are controlled where the
+  -- expression is, and the sets `within` where the reference or `ord` is.
   pub data InTree {F : Type 0} (within : List ℕ) : Asking F → List ℕ → Tree F → Type 0 where
     -- the expression is the reference, or the `ord`
     a_reference : {at : Place} {name : ℕ} {suffix : Suffix} {indices : Indices F} →
@@ -74,14 +74,14 @@ mutual
     in_guard : {what : Asking F} {around : List ℕ} {operand : Tree F} {guards : Parts F} →
         InParts within what around guards → InTree within what around (guarded operand guards)
 
-  -- It occurs in one of the parts of a node.
+  -- A reference or `ord` occurs in one of the operands, arguments or conditions of a node.
   pub data InParts {F : Type 0} (within : List ℕ) : Asking F → List ℕ → Parts F → Type 0 where
     in_part : {what : Asking F} {around : List ℕ} {mark : Mark} {tree : Tree F} {rest : Parts F} →
         InTree within what around tree → InParts within what around (part mark tree rest)
     in_later_part : {what : Asking F} {around : List ℕ} {mark : Mark} {tree : Tree F} {rest : Parts F} →
         InParts within what around rest → InParts within what around (part mark tree rest)
 
-  -- It occurs in the amount of a lag among indices.
+  -- A reference or `ord` occurs in the amount of a lag among indices.
   pub data InIndices {F : Type 0} (within : List ℕ) : Asking F → List ℕ → Indices F → Type 0 where
     in_lag : {what : Asking F} {around : List ℕ} {name : ℕ} {op : LagOp} {at : Place} {amount : Tree F} {rest : Indices F} →
         InTree within what around amount → InIndices within what around (lagged name op at amount rest)
@@ -92,7 +92,8 @@ mutual
     after_lag : {what : Asking F} {around : List ℕ} {name : ℕ} {op : LagOp} {at : Place} {amount : Tree F} {rest : Indices F} →
         InIndices within what around rest → InIndices within what around (lagged name op at amount rest)
 
-  -- It occurs in the condition of a control, in which its sets are controlled.
+  -- A reference or `ord` occurs in the condition of a control, where the sets of the control are
+  -- controlled too.
   pub data InControl {F : Type 0} (within : List ℕ) : Asking F → List ℕ → Control F → Type 0 where
     in_where : {what : Asking F} {around sets : List ℕ} {condition : Tree F} →
         InTree within what (around ++ sets) condition → InControl within what around (over_where sets condition)
@@ -100,7 +101,8 @@ mutual
 -- ---- in a statement
 
 module _ {F : Type 0} where
-  -- It occurs in an act, around which the sets of loops are controlled.
+  -- A reference or `ord` occurs in an act, around which the sets `loops` are controlled by loops.
+  -- The sets `within` are controlled where it occurs.
   pub data InAct (within : List ℕ) (what : Asking F) (loops : List ℕ) (act : Act F) : Type 0 where
     -- in the amount of a lag on the left of an assignment, in its condition, and in its right side:
     -- there the sets on the left are controlled too
@@ -126,7 +128,8 @@ module _ {F : Type 0} where
     in_abort_condition : (condition : Expr F) (items : List Show) → act ≡ Abort (Some condition) items →
         InTree within what loops (tree_of condition) → InAct within what loops act
 
-  -- A loop whose body has a statement with a property, under the sets of the loop.
+  -- The statement `outer` is a loop, and the statement `next` in its body has the property `Inner`
+  -- with the sets `loops` and those of the loop controlled.
   pub record IsInLoop (Inner : List ℕ → Stmt F → Type 0) (loops : List ℕ) (outer : Stmt F) : Type 0 where
     pub control : ControlNode F
     pub body : Vec (Stmt F) Global
@@ -137,15 +140,18 @@ module _ {F : Type 0} where
     pub occurs : body.items ≡ before ++ next ∷ rest
     pub holds : Inner (loops ++ sets_of_control (control_tree control)) next
 
-  -- it occurs in a statement, `depth` loops deep
+  -- a reference or `ord` occurs in the statement itself if `depth` is 0, otherwise in the body of
+  -- the innermost of exactly `depth` nested loops, of which the statement is the outermost. The
+  -- sets `loops` are controlled around the statement, and the sets `within` where the reference or
+  -- `ord` occurs
   abbrev pub InStatement : ℕ → List ℕ → Asking F → List ℕ → Stmt F → Type 0
   InStatement zero within what loops statement = InAct within what loops statement.act
   InStatement (suc depth) within what loops statement = IsInLoop (InStatement depth within what) loops statement
 
   -- ---- its meaning
 
-  -- a reference has a meaning at its place; the set of an `ord` is one-dimensional, controlled and
-  -- ordered
+  -- a reference has no error in some context where the sets `within` are controlled; the set of an
+  -- `ord` is one-dimensional, controlled and ordered
   abbrev pub IsMeant : Known F → List ℕ → Asking F → Type 0
   IsMeant known within (reads name suffix indices) = (context : Context) × IsReading known context within name suffix indices
   IsMeant known within (orders name) = (is_index_set known.state name ≡ true) × (is_among within name ≡ true) × (is_ordered known name ≡ true)

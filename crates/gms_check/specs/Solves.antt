@@ -1,5 +1,6 @@
--- What a solve requires of its model, its word and its objective, and options and definitions that
--- are wrong (GAMS User's Guide, "Equations"; "Model and Solve Statements"; "The Option Statement").
+-- What a solve requires of its model, of the word after `using` and of its objective, and which
+-- options and definitions are wrong (GAMS User's Guide, "Equations"; "Model and Solve Statements";
+-- "The Option Statement").
 use Rattle.std.specs.Prelude.{ℕ, Bool, true, false, not, ◌&&◌, codes}
 use Rattle.std.specs.List.{list_any}
 use Rattle.std.specs.Str.{str_eq_ignore_ascii_case}
@@ -19,24 +20,24 @@ module _ {F : Type 0} where
   model_type known (method word) = not (str_eq_ignore_ascii_case word (codes "lp"))
   model_type known used = false
 
-  -- NotDefined: no statement before the solve defines an equation of the model
+  -- NotDefined: the solved model has an equation that no statement before the solve defines
   abbrev pub not_defined : Known F → Use F → Bool
   not_defined known (solving name) =
       is_model (declared_kind known.state name) && list_any (λ equation. not (known.defined equation)) (declared_equations known.models name)
   not_defined known used = false
 
-  -- DefinedTwice: a statement before defines the equation
+  -- DefinedTwice: an equation is defined that a statement before defines
   abbrev pub defined_twice : Known F → Use F → Bool
   defined_twice known (defining name indices) = known.defined name
   defined_twice known used = false
 
-  -- Objective: the variable that is minimized or maximized has indices, or is not free
+  -- Objective: the variable that is minimized or maximized is not free, or has positions
   abbrev pub objective : Known F → Use F → Bool
   objective known (optimizing name) =
       not (is_free (symbol_at known.state name).content && is_without_positions (positions known.state name))
   objective known used = false
 
-  -- UnknownSolver: `option lp` names none of the solvers
+  -- UnknownSolver: `option lp` has a word that names none of the solvers
   abbrev pub unknown_solver : Known F → Use F → Bool
   unknown_solver known (option_value word setting) = str_eq_ignore_ascii_case word (codes "lp") && is_none_of known.solvers setting
   unknown_solver known used = false
@@ -46,7 +47,8 @@ module _ {F : Type 0} where
   option_range known (option_value word setting) = not (is_in_range known.value word setting)
   option_range known used = false
 
-  -- DataFault: data with a range that is none, with an element twice, or with too many elements
+  -- DataFault: a list of data has a range whose two labels form none, an element twice, or too many
+  -- elements
   abbrev pub data_fault : Known F → Use F → Bool
   data_fault known (failing BadRange) = true
   data_fault known (failing Repeated) = true

@@ -22,49 +22,53 @@ use Rattle.gms_check.specs.declared.contexts.Context.{Context}
 use Rattle.gms_check.specs.Contexts.{as_number, as_side, as_members}
 use Rattle.gms_check.specs.Uses.{Use, Uses, assigning, defining, first_alias, second_alias, solving, method, optimizing, showing, option_word, option_value, sets_of_control, index_sets, uses, control_uses, shift_uses, condition_uses}
 
--- the context of the right side of an assignment to a name
+-- the context of the right side of an assignment to a name: that of members for a set, that of a
+-- number for any other name
 abbrev pub right_context : State → ℕ → Context
 right_context state name = if is_set (symbol_at state name).content then as_members else as_number
 
--- what a statement uses, by what is declared and the sets that are controlled
+-- the uses of a statement, by the state after the declarations before it and the sets that are
+-- controlled around it
 abbrev pub UsesOfStatement : Type 0 → Type 0
 UsesOfStatement F = State → List ℕ → Uses F
 
--- what an act uses, by what is declared, the place of its statement and the sets that are
--- controlled
+-- the uses of an act, by the state after the declarations before it, the place of its statement,
+-- and the sets that are controlled around it
 abbrev pub UsesOfAct : Type 0 → Type 0
 UsesOfAct F = State → Place → List ℕ → Uses F
 
 module _ {F : Type 0} where
-  -- the view of indices
+  -- the indices of a reference or a left side, as the list of indices that an expression's tree has
   abbrev pub index_list : List (Index F) → Indices F
   index_list indices = indices_of (map index_tree indices)
 
-  -- the use of a displayed item
+  -- the use of a symbol among the items of `display` or `abort`; none for a text
   abbrev pub show_uses : Show → Uses F
   show_uses (show.Text word) = []
   show_uses (show.Symbol named suffix) = (named.at, showing named.name suffix) ∷ []
 
-  -- the place of what an option is set to
+  -- the place of the value of an option
   abbrev pub setting_place : Setting F → Place
   setting_place (setting.Number at value) = at
   setting_place (setting.Name word) = word.at
 
-  -- the uses of an option: its word, and the value that it is set to
+  -- the uses of an option: its word, and its value
   abbrev pub option_uses : Word × Setting F → Uses F
   option_uses (word, setting) = (word.at, option_word word.text) ∷ (setting_place setting, option_value word.text setting) ∷ []
 
-  -- the sets that are controlled after a left side: those of loops, and its own
+  -- the sets that are controlled in a statement with these indices on the left: those that loops
+  -- control, and those among the indices
   abbrev pub with_left : List ℕ → List (Index F) → List ℕ
   with_left controlled indices = controlled ++ index_sets (index_list indices)
 
-  -- the amounts of a left side, and the condition after it
+  -- the uses in a left side with these indices, in a statement at this place: those in the amounts
+  -- of its lags, and those in the condition after it
   abbrev pub left_uses : Place → List ℕ → List (Index F) → Option (Expr F) → Uses F
   left_uses at controlled indices condition =
       shift_uses controlled (index_list indices) ++ condition_uses at controlled (option_map tree_of condition)
 
-  -- what one statement uses, where the statements of a loop's body are already given by what they
-  -- use
+  -- the uses of an act, in which each statement of a loop's body is replaced by its uses; none of a
+  -- declaration or a model statement
   abbrev pub act_uses_step : Act-F F (UsesOfAct F) (UsesOfStatement F) → UsesOfAct F
   act_uses_step (Act-F.Declare kind items) state at controlled = []
   act_uses_step (Act-F.Alias first second) state at controlled =
@@ -83,10 +87,10 @@ module _ {F : Type 0} where
   act_uses_step (Act-F.Abort condition items) state at controlled =
       condition_uses at controlled (option_map tree_of condition) ++ flat_map show_uses items
 
-  -- the uses of a statement, at its place
+  -- the uses of a statement: those of its act, at its place
   abbrev pub statement_uses_step : Stmt-F F (UsesOfAct F) (UsesOfStatement F) → UsesOfStatement F
   statement_uses_step statement state controlled = statement.act state statement.at controlled
 
-  -- what a statement uses, and what the statements of its body use
+  -- the uses of a statement, and of the statements of its body if it is a loop
   abbrev pub statement_uses : Stmt F → UsesOfStatement F
   statement_uses = fold-Stmt F (UsesOfAct F) (UsesOfStatement F) act_uses_step statement_uses_step

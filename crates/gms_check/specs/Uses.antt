@@ -1,6 +1,6 @@
--- What a statement uses, part by part, each with its place: names, indices, sets that are
--- controlled, steps, words. A part has the place that the source gives it, or else that of the
--- smallest part around it.
+-- What a statement uses, piece by piece, each use with its place in the source: names, indices,
+-- sets that are controlled, operations, words. A piece has the place that the source gives it, or
+-- else that of the smallest piece around it.
 use Rattle.std.specs.Prelude.{ℕ, Bool, true, false, List, [], ◌∷◌, ◌++◌, map, flat_map, Option, Some, None}
 use Rattle.gms_labels.specs.declared.place.Place.{Place}
 use Rattle.gms_ast.specs.declared.expression.Suffix.{Suffix}
@@ -13,53 +13,54 @@ use Rattle.gms_set.specs.declared.fault.SetError.{SetError}
 use Rattle.gms_check.specs.declared.contexts.Context.{Context}
 use Rattle.gms_check.specs.Contexts.{as_number, as_condition, as_part, as_guarded, as_inner, as_denied}
 
--- A step between two operands.
+-- An operation between two operands.
 pub data Operation : Type 0 where
   multiplies : Operation
   divides : Operation
   raises : Operation
 
--- What is used at a place. Names are numbers in the program's table.
+-- What is used at a place in the source. Names are numbers in the program's table. The context of a
+-- use is what may occur at its place.
 pub data Use (F : Type 0) : Type 0 where
   -- a number, an infinity or NA
   literal : Context → Use F
   -- `yes` or `no`
   truth : Context → Use F
-  -- a reference, where these sets are controlled: name, suffix and indices
+  -- a reference: the sets that are controlled there, its name, suffix and indices
   reading : Context → List ℕ → ℕ → Suffix → Indices F → Use F
-  -- `ord` of a set, where these sets are controlled
+  -- `ord` of a set: the sets that are controlled there, and the set
   ordinal : Context → List ℕ → ℕ → Use F
   -- `card` of a set
   cardinal : Context → ℕ → Use F
-  -- a function of arguments
+  -- a call of a function with arguments
   calling : Context → Function → Parts F → Use F
-  -- a sum or another fold, of this body
+  -- a `sum` or another fold, with this body
   folding : Context → FoldOp → Tree F → Use F
-  -- sets that a fold or a loop controls, where others are controlled already
+  -- the control of a fold or a loop: the sets that are controlled already, and those of the control
   controlling : List ℕ → List ℕ → Use F
-  -- a step: the operands before it, and its right operand
+  -- an operation of a product or a power: the operands before it, and its right operand
   stepping : Context → Operation → List (Tree F) → Tree F → Use F
-  -- relations, `and`, `or` and `xor`
+  -- a relation, `and`, `or` or `xor`
   logic : Context → Use F
-  -- what an assignment assigns: name, suffix and indices
+  -- the left side of an assignment: name, suffix and indices
   assigning : ℕ → Suffix → Indices F → Use F
-  -- an equation that is defined, by these indices
+  -- the equation that a definition defines, with its indices
   defining : ℕ → Indices F → Use F
-  -- the amount of a lag on the left of an assignment
+  -- the amount of a lag on the left of an assignment or a definition
   shifting : Tree F → Use F
-  -- a name that is declared, with its domain
+  -- a name that a declaration of this kind declares, with its written domain
   naming : DeclKind → ℕ → List (Option ℕ) → Use F
-  -- variables are declared whose values are not continuous
+  -- a declaration of discrete variables
   not_continuous : Use F
-  -- a set of a domain
+  -- a set in the written domain of a declaration
   bounding : ℕ → Use F
   -- an item of data: how many positions its name has, and how many the item has
   placing : ℕ → ℕ → Use F
-  -- an error of a list of data
+  -- the fault of a list of data
   failing : SetError → Use F
-  -- the first name of an alias, and the second
+  -- the first name of an alias; the arguments are both names
   first_alias : ℕ → ℕ → Use F
-  -- the second name of an alias, after the first
+  -- the second name of an alias; the arguments are both names
   second_alias : ℕ → ℕ → Use F
   -- a model that is declared
   modelling : ℕ → Use F
@@ -71,24 +72,26 @@ pub data Use (F : Type 0) : Type 0 where
   method : List ℕ → Use F
   -- the variable that is minimized or maximized
   optimizing : ℕ → Use F
-  -- a symbol that is displayed, by a suffix
+  -- a symbol that is displayed, with its suffix
   showing : ℕ → Suffix → Use F
   -- the word of an option
   option_word : List ℕ → Use F
-  -- what an option is set to
+  -- the value of an option, after the option's word
   option_value : List ℕ → Setting F → Use F
 
--- uses with their places
+-- a list of uses, each with its place in the source
 abbrev pub Uses : Type 0 → Type 0
 Uses F = List (Place × Use F)
 
--- the place of a part: its own, or that of the smallest part around it
+-- the place of an operand or argument in the source: its own if its mark has one, otherwise
+-- `around`, that of the smallest piece of the source around it that has one
 abbrev pub place_by_mark : Mark → Place → Place
 place_by_mark (placed at) around = at
 place_by_mark (signed at mark) around = at
 place_by_mark mark around = around
 
--- which step comes before a part of a product or a power
+-- the operation before an operand of a product or a power, by the operand's mark: in a product a
+-- division if the operand divides, otherwise a multiplication; in a power an exponentiation
 abbrev pub operation_of : Mark → Operation
 operation_of (signed at true) = divides
 operation_of (signed at false) = multiplies
@@ -107,19 +110,21 @@ module _ {F : Type 0} where
   index_sets (set name rest) = name ∷ index_sets rest
   index_sets (lagged name op at amount rest) = name ∷ index_sets rest
 
-  -- the steps of the parts after these operands
+  -- the operations before these operands of a product or a power, one for each, where `earlier` are
+  -- the operands that precede them
   abbrev pub later_steps : Context → Place → List (Tree F) → Parts F → Uses F
   later_steps context around earlier no_part = []
   later_steps context around earlier (part mark tree rest) =
       (place_by_mark mark around, stepping context (operation_of mark) earlier tree) ∷ later_steps context around (earlier ++ tree ∷ []) rest
 
-  -- the steps of a product or a power: one for each part except the first
+  -- the operations of a product or a power: one before each operand except the first
   abbrev pub steps : Context → Place → Parts F → Uses F
   steps context around no_part = []
   steps context around (part mark tree rest) = later_steps context around (tree ∷ []) rest
 
 abbrev mutual
-  -- what an expression uses in a context, with a place around it, under these controlled sets
+  -- the uses of an expression in a context, where `around` is the place of the smallest piece
+  -- around it that has one, and the sets `controlled` are controlled
   pub uses : {F : Type 0} → Context → Place → List ℕ → Tree F → Uses F
   uses context around controlled (number n) = (around, literal context) ∷ []
   uses context around controlled plus_infinity = (around, literal context) ∷ []
@@ -145,27 +150,28 @@ abbrev mutual
   uses context around controlled (guarded operand guards) =
       uses (as_guarded context) around controlled operand ++ part_uses as_condition around controlled guards
 
-  -- what the parts of a node use, in sequence
+  -- the uses of the operands or arguments of a node, in order
   pub part_uses : {F : Type 0} → Context → Place → List ℕ → Parts F → Uses F
   part_uses context around controlled no_part = []
   part_uses context around controlled (part mark tree rest) =
       uses context (place_by_mark mark around) controlled tree ++ part_uses context around controlled rest
 
-  -- what the amounts of lags use
+  -- the uses of the amounts of lags among indices, in order
   pub amount_uses : {F : Type 0} → List ℕ → Indices F → Uses F
   amount_uses controlled no_index = []
   amount_uses controlled (label n rest) = amount_uses controlled rest
   amount_uses controlled (set name rest) = amount_uses controlled rest
   amount_uses controlled (lagged name op at amount rest) = uses as_number at controlled amount ++ amount_uses controlled rest
 
-  -- what a control uses: its sets, and its condition under them
+  -- the uses in a control: one of its sets, and those in its condition, where these sets are
+  -- controlled too
   pub control_uses : {F : Type 0} → Place → List ℕ → Control F → Uses F
   control_uses at controlled (over sets) = (at, controlling controlled sets) ∷ []
   control_uses at controlled (over_where sets condition) =
       (at, controlling controlled sets) ∷ uses as_condition at (controlled ++ sets) condition
 
 module _ {F : Type 0} where
-  -- what the amounts of lags on the left of an assignment use
+  -- the uses of the amounts of lags on the left of an assignment or a definition
   abbrev pub shift_uses : List ℕ → Indices F → Uses F
   shift_uses controlled no_index = []
   shift_uses controlled (label n rest) = shift_uses controlled rest
@@ -173,7 +179,7 @@ module _ {F : Type 0} where
   shift_uses controlled (lagged name op at amount rest) =
       (at, shifting amount) ∷ (uses as_number at controlled amount ++ shift_uses controlled rest)
 
-  -- what a condition, if any, uses
+  -- the uses of a condition; none if there is no condition
   abbrev pub condition_uses : Place → List ℕ → Option (Tree F) → Uses F
   condition_uses at controlled None = []
   condition_uses at controlled (Some condition) = uses as_condition at controlled condition

@@ -13,14 +13,14 @@ use gms_scope::Known;
 use gq_field::ExactField;
 use std::alloc::{AllocError, Global};
 
-/// The compile errors of a program, with solvers of these names: at most one of each statement, in
-/// order.
+/// The compile errors of a program, if the names of the solvers are `solvers`: at most one of each
+/// statement, in the order of the statements. The only error of the function is out of memory.
 ///
-/// The error of a statement is the first by place, and at one place the one with the least number.
-/// A loop with its body is one statement. A name is declared by the first statement that declares
-/// it, with an error or without; the data of a statement with an error are not given. The program
-/// is accepted exactly where there is no error. GAMS User's Guide, "Set Definition", "Data
-/// Manipulation", "Equations", "Model and Solve Statements".
+/// The error of a statement is the first by its place in the source, and at one place the one with
+/// the least number. A loop with its body is one statement. A name is declared by the first
+/// statement that declares it, with an error or without; a statement with an error gives its names
+/// no data. The program is accepted if and only if there is no error. GAMS User's Guide, "Set
+/// Definition", "Data Manipulation", "Equations", "Model and Solve Statements".
 pub fn check<F: ExactField>(
     alloc: Global,
     program: &Program<F>,
@@ -33,7 +33,7 @@ pub fn check<F: ExactField>(
     found_errors(alloc, &each)
 }
 
-/// The bytes of the names of solvers, in order.
+/// The names of solvers as sequences of bytes, in the same order. The error is out of memory.
 pub fn names_of(alloc: Global, solvers: &[String]) -> Result<Vec<Sequence<u8>>, AllocError>
     ensures { IfOk result (λ names. names.items ≡ map string_bytes solvers.now) }
 {
@@ -45,8 +45,8 @@ pub fn names_of(alloc: Global, solvers: &[String]) -> Result<Vec<Sequence<u8>>, 
     Ok(names)
 }
 
-/// The error of each statement of a program, in order, with solvers of these names: those of
-/// `check`, each beside its statement; `None` for a statement without an error.
+/// For each statement of a program, in order, the statement's compile error, or `None` if the
+/// statement has none. `solvers` has the names of the solvers. The errors are those of `check`.
 pub fn statement_errors<F: ExactField>(
     alloc: Global,
     program: &Program<F>,
@@ -76,7 +76,7 @@ fn check_statements<F: ExactField>(
     Ok(errors)
 }
 
-/// The errors, in order, without those that are `None`.
+/// The compile errors of this list, in order, without its entries that are `None`.
 pub fn found_errors(
     alloc: Global,
     each: &[Option<CompileError>],
@@ -100,24 +100,25 @@ fn put_last(errors: &mut Vec<CompileError>, error: Option<CompileError>) -> Resu
     Ok(())
 }
 
-/// A check in progress: what is known, the sets that are controlled here, and the first error of
-/// the statement so far.
+/// A check in progress, at one statement of a program: what is known from the statements before,
+/// the sets that are controlled at the current expression, and the first error of this statement so
+/// far.
 #[derive(Drop)]
 pub struct Checker<'s, F: ExactField> {
-    /// The allocator.
+    /// The allocator of all that the check stores.
     pub alloc: Global,
-    /// The names of the solvers.
+    /// The names of the solvers, which `option lp` may name.
     pub solvers: &'s [Sequence<u8>],
-    /// What is known.
+    /// What the statements before the one in check declare and define, with their data.
     pub known: Known<F>,
-    /// The sets that are controlled.
+    /// The sets that folds, loops and left sides control at the current expression.
     pub controlled: Controlled,
-    /// The first error of the statement so far.
+    /// The first error so far of the statement in check; `None` if it has none so far.
     pub first: Option<CompileError>,
 }
 
 impl<'s, F: ExactField> Checker<'s, F> {
-    /// A check at the beginning of a program.
+    /// A check before the first statement of a program. `solvers` has the names of the solvers.
     pub fn new(
         alloc: Global,
         program: &Program<F>,
@@ -136,7 +137,8 @@ impl<'s, F: ExactField> Checker<'s, F> {
         })
     }
 
-    /// Remembers an error, unless an earlier one is remembered.
+    /// Takes note of an error of the statement, of this kind and at this place: the new error
+    /// becomes the statement's first error, unless the first error so far comes before it.
     pub fn report(&mut self, kind: ErrorKind, at: Place)
         ensures { seen self.new ≡ record (seen self.old) { first = sooner (seen self.old).first (Some (record { kind = kind; at = at })) } }
     {
@@ -144,7 +146,7 @@ impl<'s, F: ExactField> Checker<'s, F> {
         self.first = Some(error.or_earlier(self.first));
     }
 
-    /// Remembers an error if something does not hold.
+    /// Reports an error of this kind at the place `at` if `holds` is false.
     pub fn require(&mut self, holds: bool, kind: ErrorKind, at: Place)
         ensures { seen self.new ≡ faulted (seen self.old) at ((not holds, kind) ∷ []) }
     {
@@ -153,7 +155,7 @@ impl<'s, F: ExactField> Checker<'s, F> {
         }
     }
 
-    /// Answers the first error so far, and forgets it.
+    /// Returns the first error of the statement so far, `None` if there is none, and forgets it.
     pub fn take_first(&mut self) -> Option<CompileError>
         ensures first { result ≡ (seen self.old).first }
         ensures forgotten { seen self.new ≡ record (seen self.old) { first = None } }
@@ -163,7 +165,8 @@ impl<'s, F: ExactField> Checker<'s, F> {
         first
     }
 
-    /// Remembers an error, if any, that was found before, unless an earlier one is remembered.
+    /// Makes the error `before` the statement's first error, unless the first error so far comes
+    /// before that error. If `before` is `None`, nothing changes.
     pub fn merge(&mut self, before: Option<CompileError>)
         ensures { seen self.new ≡ record (seen self.old) { first = sooner before (seen self.old).first } }
     {

@@ -5,23 +5,24 @@ ghost use Rattle.gms_check.specs.Contexts.{as_condition, as_denied, as_guarded, 
 use gms_ast::Suffix;
 use gms_store::SymbolKind;
 
-/// What may occur at a place of an expression.
+/// What may occur at a place of an expression. Each field is whether one kind of operand may occur
+/// there.
 #[derive(Clone, Copy, Debug, PartialEq, Eq)]
 pub struct Context {
-    /// What has a number: literals, parameters, attributes, functions, sums and the like,
-    /// relations, `and` and `or`.
+    /// Whether operands that have a number may occur: literals, parameters, attributes, functions,
+    /// sums and the like, relations, `and` and `or`.
     pub numbers: bool,
-    /// A variable without suffix.
+    /// Whether a variable without suffix may occur.
     pub variables: bool,
-    /// A reference to a set.
+    /// Whether a reference to a set may occur.
     pub sets: bool,
-    /// `yes` and `no`.
+    /// Whether `yes` and `no` may occur.
     pub membership: bool,
 }
 
 impl Context {
-    /// A number is expected: in an assignment to a parameter or an attribute, in a relation, as an
-    /// argument, as the amount of a lag.
+    /// The context of what has to be a number: the right side of an assignment to a parameter or an
+    /// attribute, an operand of a relation, the amount of a lag.
     pub(crate) const NUMBER: Context = Context {
         numbers: true,
         variables: false,
@@ -53,7 +54,8 @@ impl Context {
         membership: true,
     };
 
-    /// What may occur in a part of a sum, a product or a power, or in an operand with a sign.
+    /// The context of an operand of a sum, a product or a power, or of one with a sign, in an
+    /// expression with this context.
     pub(crate) fn part(self) -> Context
         ensures { result ≡ as_part self }
     {
@@ -63,14 +65,15 @@ impl Context {
         }
     }
 
-    /// What may occur in the left operand of `$`.
+    /// The context of the left operand of `$` in an expression with this context.
     pub(crate) fn guarded(self) -> Context
         ensures { result ≡ as_guarded self }
     {
         Context { sets: true, ..self }
     }
 
-    /// What may occur in an argument of a function, or in the body of a sum and the like.
+    /// The context of an argument of a function, or of the body of a sum and the like, in an
+    /// expression with this context.
     pub(crate) fn inner(self) -> Context
         ensures { result ≡ as_inner self }
     {
@@ -82,7 +85,7 @@ impl Context {
         }
     }
 
-    /// What may occur in the operand of `not`.
+    /// The context of the operand of `not` in an expression with this context.
     pub(crate) fn denied(self) -> Context
         ensures { result ≡ as_denied self }
     {
@@ -93,8 +96,8 @@ impl Context {
         }
     }
 
-    /// Whether a symbol of this kind may be read by this suffix. A variable without suffix is
-    /// admitted here: it is another error.
+    /// Whether a symbol of this kind, with this suffix, may occur in this context. A variable
+    /// without suffix always may, since another error, Endogenous, tells where it may not.
     pub(crate) fn admits(self, kind: SymbolKind, suffix: Suffix) -> bool
         ensures { result ≡ may_occur self kind suffix }
     {
@@ -110,7 +113,7 @@ impl Context {
     }
 }
 
-/// Whether a symbol of this kind may be assigned by this suffix.
+/// Whether an assignment to a symbol of this kind, with this suffix, is possible.
 pub(crate) fn may_be_assigned(kind: SymbolKind, suffix: Suffix) -> bool
     ensures { result ≡ may_be_assigned kind suffix }
 {

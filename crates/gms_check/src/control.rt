@@ -1,4 +1,4 @@
-//! The check of sets: those that folds and loops control, and those of `ord` and `card`.
+//! The check of the sets that folds and loops control, and of `ord` and `card`.
 ghost use Rattle.std.specs.Prelude.{◌≡◌, ◌++◌, [], ◌∷◌, false, not, IfOk, OnOk};
 ghost use Rattle.gms_scope.specs.Names.{has_no_declaration};
 ghost use Rattle.gms_check.specs.InnerChecking.{faulted, noted, seen, with_controlled};
@@ -15,7 +15,7 @@ use gq_field::ExactField;
 use std::alloc::AllocError;
 
 impl<'s, F: ExactField> Checker<'s, F> {
-    /// Checks that a name is declared.
+    /// Reports the error `UnknownName` at the place `at` if no statement before declares the name.
     pub fn require_known(&mut self, name: u32, at: Place)
         ensures { seen self.new ≡ faulted (seen self.old) at ((has_no_declaration (seen self.old).facts.state name, UnknownName) ∷ []) }
     {
@@ -23,7 +23,8 @@ impl<'s, F: ExactField> Checker<'s, F> {
         self.require(known, ErrorKind::UnknownName, at);
     }
 
-    /// Checks sets that are to be controlled, and controls them.
+    /// Checks the sets of a fold or a loop at the place `at`: each is a one-dimensional set, there
+    /// are at most 10, and none is controlled already. From then on they are controlled.
     pub fn control_sets(&mut self, sets: &[u32], at: Place) -> Result<(), AllocError>
         ensures { OnOk result
             (seen self.new ≡ with_controlled (noted F.value (seen self.old) ((at, controlling (seen self.old).controlled sets.now) ∷ [])) sets.now) }
@@ -38,7 +39,7 @@ impl<'s, F: ExactField> Checker<'s, F> {
         Ok(())
     }
 
-    /// Controls sets. Answers whether one of them is controlled already.
+    /// Makes sets controlled. The result is whether one of them was controlled already.
     fn push_sets(&mut self, sets: &[u32]) -> Result<bool, AllocError>
         ensures twice { IfOk result (λ twice. twice ≡ is_controlled_twice (seen self.old).controlled sets.now) }
         ensures controlled { OnOk result (seen self.new ≡ with_controlled (seen self.old) sets.now) }
@@ -51,7 +52,8 @@ impl<'s, F: ExactField> Checker<'s, F> {
         Ok(twice)
     }
 
-    /// Checks `ord` of a set. Answers whether it has variables: it has none.
+    /// Checks `ord` of a set, at the place `at` in this context. The result is whether the operand
+    /// has a variable, so it is false.
     pub fn ordinal(&mut self, context: Context, at: Place, set: u32) -> bool
         ensures noted { seen self.new ≡ noted F.value (seen self.old) ((at, ordinal context (seen self.old).controlled set) ∷ []) }
         ensures variable { result ≡ false }
@@ -64,7 +66,8 @@ impl<'s, F: ExactField> Checker<'s, F> {
         variable
     }
 
-    /// Checks `card` of a set. Answers whether it has variables: it has none.
+    /// Checks `card` of a set, at the place `at` in this context. The result is whether the operand
+    /// has a variable, so it is false.
     pub fn cardinal(&mut self, context: Context, at: Place, set: u32) -> bool
         ensures noted { seen self.new ≡ noted F.value (seen self.old) ((at, cardinal context set) ∷ []) }
         ensures variable { result ≡ false }

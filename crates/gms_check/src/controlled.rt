@@ -5,12 +5,14 @@ ghost use Rattle.gms_check.specs.Past.{is_among};
 use std::alloc::{AllocError, Global};
 use std::marker::Model;
 
-/// The sets that are controlled, in order, with repetitions. Whether a set is among them is read at
-/// its first place, so that a query takes the same time however many there are.
+/// The controlled sets, in the order in which they were added, with repetitions. The index of the
+/// first occurrence of each set is stored, so a query takes the same time however many sets there
+/// are.
 #[derive(Drop)]
 pub struct Controlled {
     sets: Vec<u32>,
-    /// By the number of a set: its first place among them, plus 1; 0 if it is none of them.
+    /// By the number of a set: the index of its first occurrence, plus 1; 0 if it is not
+    /// controlled.
     firsts: Vec<usize>,
 }
 
@@ -26,7 +28,7 @@ impl Model for Controlled {
 }
 
 impl Controlled {
-    /// No sets.
+    /// An empty list of controlled sets.
     pub fn new(alloc: Global) -> Controlled
         ensures { result ≡ [] }
     {
@@ -36,14 +38,14 @@ impl Controlled {
         }
     }
 
-    /// How many sets are controlled.
+    /// How many controlled sets the list has, repetitions included.
     pub fn len(&self) -> usize
         ensures { result ≡ length self.now }
     {
         self.sets.len()
     }
 
-    /// Whether a set is controlled.
+    /// Whether this set, given by the number of its name, is controlled.
     pub fn has(&self, set: u32) -> bool
         ensures { result ≡ is_among self.now set }
     {
@@ -53,7 +55,7 @@ impl Controlled {
         }
     }
 
-    /// Controls a set.
+    /// Adds a controlled set after the others. The error is out of memory.
     pub fn push(&mut self, set: u32) -> Result<(), AllocError>
         ensures { OnOk result (self.new ≡ self.old ++ set ∷ []) }
     {
@@ -66,7 +68,7 @@ impl Controlled {
         Ok(())
     }
 
-    /// Keeps only the first `count` of them.
+    /// Keeps only the first `count` of the controlled sets, repetitions included.
     pub fn truncate(&mut self, count: usize)
         ensures { self.new ≡ take count self.old }
     {

@@ -28,7 +28,8 @@ use gq_field::ExactField;
 use std::alloc::AllocError;
 
 impl<'s, F: ExactField> Checker<'s, F> {
-    /// Checks a declaration of names, and declares them. If it has no error its data are given.
+    /// Checks a declaration, at the place `at`, of these items, all of this kind, and declares
+    /// their names. If the statement has no error, the names get their data.
     pub fn declaration(
         &mut self,
         at: Place,
@@ -57,8 +58,8 @@ impl<'s, F: ExactField> Checker<'s, F> {
         }
     }
 
-    /// Checks names of a declaration in sequence, and declares them. Answers those whose data are
-    /// given.
+    /// Checks names of a declaration in sequence, and declares them. The result is those that got
+    /// their data.
     fn declared_items(&mut self, kind: DeclKind, items: &[Decl<F>]) -> Result<Vec<u32>, AllocError>
         ensures noted { OnOk result (seen self.new
             ≡ record (seen self.old) {
@@ -79,8 +80,8 @@ impl<'s, F: ExactField> Checker<'s, F> {
         Ok(given)
     }
 
-    /// Checks a name of a declaration, and declares it. If it has no error its data are given, and
-    /// the answer is true.
+    /// Checks a name of a declaration, and declares it. If it has no error it gets its data, and
+    /// the result is true.
     fn declared_item(&mut self, kind: DeclKind, item: &Decl<F>) -> Result<bool, AllocError>
         ensures sound { IfOk result (λ sound. sound
             ≡ is_faultless (errors_of (known_of F.value (seen self.old)) (item_uses (known_of F.value (seen self.old)) kind item.now))) }
@@ -101,8 +102,8 @@ impl<'s, F: ExactField> Checker<'s, F> {
         Ok(sound)
     }
 
-    /// Checks a name of a declaration. Answers its data, which have no meaning if they have an
-    /// error.
+    /// Checks a name of a declaration. The result is its data, which have no meaning if they have
+    /// an error.
     fn item(&mut self, kind: DeclKind, item: &Decl<F>) -> Result<Data<F>, AllocError>
         ensures noted { OnOk result (seen self.new
             ≡ noted F.value (seen self.old) (item_uses (known_of F.value (seen self.old)) kind item.now)) }
@@ -128,7 +129,8 @@ impl<'s, F: ExactField> Checker<'s, F> {
         self.require(positions <= MOST, ErrorKind::WrongArity, named.at);
     }
 
-    /// Whether a declaration gives a variable a type once more.
+    /// Whether a declaration may give a type to a variable that is declared before: the variable is
+    /// free so far, and the declaration is of variables and has no domain or the variable's own.
     fn may_be_typed(&self, kind: DeclKind, name: u32, domain: &[Option<Named>]) -> bool
         ensures { result ≡ may_be_typed (known_of F.value (seen self.now)) kind name (names_of domain.now) }
     {
@@ -199,8 +201,8 @@ impl<'s, F: ExactField> Checker<'s, F> {
         }
     }
 
-    /// Checks the elements that data give at these positions. Answers these elements, which have no
-    /// meaning if they have an error.
+    /// Checks the elements that items of data give at these positions. The result is the elements,
+    /// which have no meaning if they have an error.
     fn data(&mut self, positions: &[Option<u32>], items: &[Item<F>]) -> Result<Data<F>, AllocError>
         ensures noted { OnOk result (seen self.new
             ≡ noted F.value (seen self.old) (expansion_uses (known_of F.value (seen self.old)) positions.now items.now)) }

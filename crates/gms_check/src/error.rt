@@ -5,19 +5,19 @@ ghost use Rattle.gms_check.specs.Errors.{comes_first, earlier, error_code, error
 use gms_labels::Place;
 use thiserror::Error;
 
-/// A compile error. Each example is a source that has it, after `set i /a,b/, s(i); parameter p(i);
-/// variables x, z; equation e;`.
+/// A kind of compile error. The example of each kind is a statement that has this error after `set
+/// i /a,b/, s(i); parameter p(i); variables x, z; equation e;`.
 #[derive(Clone, Copy, Debug, Error)]
 pub enum ErrorKind {
-    /// A name that no statement before declares, as `q = 1;`, or a word that is no option, as
-    /// `option foo = 1;`.
+    /// A name that no statement before declares, as `q = 1;`, or an option word that is no option,
+    /// as `option foo = 1;`.
     #[error("an unknown name")]
     UnknownName,
-    /// A name that is declared again, as `set i;`. A variable may be given a type once more, with
-    /// the same domain or none, while its type is free.
+    /// A name that is declared again, as `set i;`. A free variable may be given a type by a later
+    /// declaration, with the same domain or none.
     #[error("a name declared twice")]
     Redeclared,
-    /// A symbol, a suffix, `yes`, `no` or an infinity whose kind the context does not admit, as
+    /// A symbol, a suffix, a value or an operation of a kind that the context does not admit, as
     /// `p("a") = yes;`.
     #[error("a symbol, suffix or value of a kind that cannot occur here")]
     WrongKind,
@@ -42,7 +42,7 @@ pub enum ErrorKind {
     /// A set that some statement assigns, as a domain: `parameter q(s); s(i) = yes;`.
     #[error("an assigned set as a domain")]
     DynamicDomain,
-    /// A step of an equation that is not linear, as `e.. x*z =e= 1;`.
+    /// An operation of an equation that is not linear in its variables, as `e.. x*z =e= 1;`.
     #[error("a nonlinear step in an equation")]
     Nonlinear,
     /// A variable whose values are not continuous, as `binary variable b;`.
@@ -67,15 +67,15 @@ pub enum ErrorKind {
     /// A value of an option that is outside its range, as `option decimals = 9;`.
     #[error("an option's value out of range")]
     OptionRange,
-    /// A variable without suffix where it is no unknown of an equation, as `p("a") = x;`.
+    /// A variable without suffix outside the sides of an equation, as `p("a") = x;`.
     #[error("a variable without suffix outside an equation")]
     Endogenous,
     /// A function that this language leaves out, or a wrong number of arguments, as `p("a") =
     /// exp(1);`.
     #[error("an unsupported function or a wrong number of arguments")]
     Function,
-    /// A range that is none, an element that is given twice, or too many of them, as `set k
-    /// /a3*a1/;`.
+    /// Two labels that are no range, an element that occurs twice in data, or too many elements, as
+    /// `set k /a3*a1/;`.
     #[error("not a range, an element given twice or over 1,048,576 elements")]
     DataFault,
     /// In a restarted run, a statement of the new file that gives a type to a saved variable, or
@@ -85,7 +85,7 @@ pub enum ErrorKind {
 }
 
 impl ErrorKind {
-    /// The number of the error.
+    /// The number of this kind of compile error, from 1.
     pub fn code(self) -> u8
         ensures { result ≡ error_code self }
     {
@@ -115,7 +115,7 @@ impl ErrorKind {
         }
     }
 
-    /// The name of the error.
+    /// The name of this kind of compile error, which is the name of the variant.
     pub fn name(self) -> &'static str
         ensures { result.now ≡ error_name self }
     {
@@ -146,14 +146,15 @@ impl ErrorKind {
     }
 }
 
-/// A compile error and its place: that of the smallest part of the statement around it that has
-/// one.
+/// A compile error and its place in the source: that of the smallest piece of the statement around
+/// the error that has a place.
 #[derive(Clone, Copy, Debug, Error)]
 #[error("{at}: {code} {name}: {kind}", code = .kind.code(), name = .kind.name())]
 pub struct CompileError {
-    /// The error.
+    /// The kind of the error.
     pub kind: ErrorKind,
-    /// Its place.
+    /// The place of the error in the source: that of the smallest piece of the statement around the
+    /// error that has a place.
     pub at: Place,
 }
 
@@ -167,8 +168,8 @@ impl CompileError {
         place < others
     }
 
-    /// This error, or another one where that comes first: by its place, and at one place by its
-    /// number.
+    /// The earlier of two errors: `other` if it is an error that comes before this one by its
+    /// place, or at one place by its number; else this error.
     pub fn or_earlier(self, other: Option<CompileError>) -> CompileError
         ensures { result ≡ earlier self other }
     {

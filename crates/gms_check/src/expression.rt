@@ -1,4 +1,4 @@
-//! The check of expressions: what may occur in them, and which steps are not linear.
+//! The check of expressions: what may occur in them, and which operations are not linear.
 ghost use Rattle.std.specs.Prelude.{◌≡◌, ◌++◌, ◌∷◌, [], ◌&&◌, false, not, take, IfOk, OnOk};
 ghost use Rattle.gms_ast.specs.TreeView.{control_tree, tree_of};
 ghost use Rattle.gms_check.specs.InnerChecking.{faulted, known_of, noted, seen, with_controlled, with_sets};
@@ -18,7 +18,7 @@ use gms_labels::Place;
 use gq_field::ExactField;
 use std::alloc::AllocError;
 
-/// A step between two operands.
+/// An operation between two operands.
 #[derive(Clone, Copy, Debug, PartialEq, Eq)]
 pub enum Operation {
     /// The right operand multiplies.
@@ -30,7 +30,9 @@ pub enum Operation {
 }
 
 impl<'s, F: ExactField> Checker<'s, F> {
-    /// Checks an expression in a context, with a place around it. Answers whether it has variables.
+    /// Checks an expression in a context. `around` is the place of the smallest piece of the source
+    /// around the expression that has a place. The result is whether the expression has a variable
+    /// without suffix outside conditions, relations, operands of logic and amounts of lags.
     #[cycle(expression)]
     pub fn expression(
         &mut self,
@@ -194,8 +196,8 @@ impl<'s, F: ExactField> Checker<'s, F> {
         Ok(variable)
     }
 
-    /// Checks the sets that a fold or a loop controls, and its condition under them. They stay
-    /// controlled.
+    /// Checks the sets of a fold or a loop at the place `at`, and the condition on them, if any.
+    /// The sets are controlled in the condition, and stay controlled.
     #[cycle(expression)]
     pub fn control(&mut self, control: &Control<F>, at: Place) -> Result<(), AllocError>
         ensures { OnOk result (seen self.new

@@ -17,17 +17,17 @@ use gms_scope::Known;
 use gq_field::ExactField;
 use std::alloc::{AllocError, Global};
 
-/// How many sets a control has at most, and how many indices a reference.
+/// The most sets that a fold or a loop may control, and the most indices that a reference may have.
 pub const MOST: usize = 10;
 
-/// Whether a number of indices is not the expected one, or over 10.
+/// Whether a number of indices, `count`, is other than `expected` or over 10.
 pub fn is_wrong_count(expected: usize, count: usize) -> bool
     ensures { result ≡ is_wrong_count expected count }
 {
     count != expected || count > MOST
 }
 
-/// The sets among indices, in order.
+/// The sets among indices, in order, by the numbers of their names. The error is out of memory.
 pub fn index_sets<F>(alloc: Global, indices: &[Index<F>]) -> Result<Vec<u32>, AllocError>
     ensures { IfOk result (λ sets. sets.items ≡ index_sets (index_list indices.now)) }
 {
@@ -40,7 +40,8 @@ pub fn index_sets<F>(alloc: Global, indices: &[Index<F>]) -> Result<Vec<u32>, Al
     Ok(sets)
 }
 
-/// The sets among indices that have a lag, in order.
+/// The sets among indices that have a lag, in order, by the numbers of their names. The error is
+/// out of memory.
 pub fn lagged_sets<F>(alloc: Global, indices: &[Index<F>]) -> Result<Vec<u32>, AllocError>
     ensures { IfOk result (λ sets. sets.items ≡ lagged_sets (index_list indices.now)) }
 {
@@ -55,7 +56,7 @@ pub fn lagged_sets<F>(alloc: Global, indices: &[Index<F>]) -> Result<Vec<u32>, A
     Ok(sets)
 }
 
-/// Whether some of these names is not declared.
+/// Whether at least one of these names is unknown: no statement before declares it.
 pub fn has_unknown<F: ExactField>(known: &Known<F>, names: &[u32]) -> bool
     ensures { result ≡ list_any (has_no_declaration known.now.state) names.now }
 {
@@ -67,7 +68,7 @@ pub fn has_unknown<F: ExactField>(known: &Known<F>, names: &[u32]) -> bool
     false
 }
 
-/// Whether some of these names is not that of a one-dimensional set.
+/// Whether at least one of these names is not that of a one-dimensional set.
 pub fn has_wrong_set<F: ExactField>(known: &Known<F>, names: &[u32]) -> bool
     ensures { result ≡ list_any (λ name. not (is_index_set known.now.state name)) names.now }
 {
@@ -79,7 +80,7 @@ pub fn has_wrong_set<F: ExactField>(known: &Known<F>, names: &[u32]) -> bool
     false
 }
 
-/// Whether some of these sets is not ordered.
+/// Whether at least one of these sets is not ordered.
 pub fn has_unordered<F: ExactField>(known: &Known<F>, sets: &[u32]) -> bool
     ensures { result ≡ list_any (λ set. not (is_known_ordered known.now set)) sets.now }
 {
@@ -91,7 +92,7 @@ pub fn has_unordered<F: ExactField>(known: &Known<F>, sets: &[u32]) -> bool
     false
 }
 
-/// Whether some of these sets is not controlled.
+/// Whether at least one of these sets is not among the controlled ones.
 pub fn has_uncontrolled(controlled: &Controlled, sets: &[u32]) -> bool
     ensures { result ≡ list_any (λ set. not (is_among controlled.now set)) sets.now }
 {
@@ -103,7 +104,10 @@ pub fn has_uncontrolled(controlled: &Controlled, sets: &[u32]) -> bool
     false
 }
 
-/// Whether some index set does not fit its position of a name.
+/// Whether at least one set among the indices of a reference to `name` does not fit its position. A
+/// set fits where the domain of `name` has `*`. It also fits where the domain has a set that is
+/// declared before `name`, if it is that set or is declared as a subset of that set, directly or
+/// through other sets.
 pub fn has_unfit_set<F: ExactField>(known: &Known<F>, name: u32, indices: &[Index<F>]) -> bool
     ensures { result ≡ have_unfit_set known.now.state (names known.now) (above_of known.now.declared) name
         (positions known.now.state name) (index_list indices.now) }
@@ -119,7 +123,9 @@ pub fn has_unfit_set<F: ExactField>(known: &Known<F>, name: u32, indices: &[Inde
     false
 }
 
-/// Whether some label does not fit its position of a name.
+/// Whether at least one label among the indices of a reference to `name` does not fit its position.
+/// A label fits where the domain of `name` has `*`. It also fits where the domain has a set that is
+/// declared before `name`, if that set has the label. The error is out of memory.
 pub fn has_unfit_label<F: ExactField>(
     alloc: Global,
     known: &Known<F>,

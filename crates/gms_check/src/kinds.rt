@@ -1,4 +1,4 @@
-//! What a name is, by its kind.
+//! Which kind a name is declared as.
 ghost use Rattle.std.specs.Prelude.{◌≡◌};
 ghost use Rattle.gms_scope.specs.Names.{is_equation, is_model};
 ghost use Rattle.gms_check.specs.Kinds.{is_variable_kind};

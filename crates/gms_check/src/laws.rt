@@ -28,22 +28,27 @@ use gq_field::ExactField;
 
 /// What holds of each program without compile errors. Each reference in it names what a statement
 /// before declares, in a context that admits it, with as many indices as its name has positions.
-/// Each index set is one-dimensional, below its position's set and controlled; each label is in its
-/// position's set; and a set with a lag is ordered. Sets that are controlled are one-dimensional,
-/// and controlled once; so is the set of an `ord`, which is ordered.
+/// Each index set is one-dimensional, below the set of its position, and controlled; each label is
+/// a member of the set of its position; and a set with a lag is ordered. A set is below itself, and
+/// below each set of which it is declared as a subset, directly or through other sets. Sets that
+/// are controlled are one-dimensional, and controlled once; the set of an `ord` is one-dimensional,
+/// controlled and ordered.
 pub fn checked_laws<F: ExactField>()
     ensures checked { (program : Program F) (solvers : List (List ℕ)) → compile_errors F.value program solvers ≡ [] → IsChecked F.value program solvers }
 {}
 
 /// What holds of each reference of a program without compile errors, wherever it occurs in a
 /// statement: in an expression, under any folds and conditions, in the amount of a lag, in an
-/// assignment, a definition, an abort or the condition of a loop, `depth` loops deep. Its name is
-/// declared by a statement before, and some context admits it with its suffix (`checked_laws` says
-/// that its own context does). It has as many indices as its name has positions, at most 10; each
-/// set among them has one dimension and fits its position; each label is in its position's set; and
+/// assignment, a definition, an abort or the condition of a loop, within `depth` nested loops.
+///
+/// The name of the reference is declared by a statement before, and some context admits the name
+/// with its suffix (`checked_laws` states that the context of the reference does). The reference
+/// has as many indices as its name has positions, at most 10. Each set among the indices has one
+/// dimension and is below the set of its position: it is that set, or is declared as a subset of
+/// that set, directly or through other sets. Each label is a member of the set of its position, and
 /// a set with a lag is ordered. Each set is one of those that are controlled at the reference: by
-/// the loops around the statement, by the left side, and by the folds around the reference. So is
-/// the set of an `ord`, which is ordered.
+/// the loops around the statement, by the left side, and by the folds around the reference. The set
+/// of an `ord` is one of these too; it has one dimension and is ordered.
 ///
 /// GAMS User's Guide, "Data Manipulations with Parameters", "Sets as Sequences: Ordered Sets",
 /// "Programming Flow Control Features".
@@ -55,7 +60,7 @@ pub fn reference_laws<F: ExactField>()
 
 /// The left side of an assignment in a program without compile errors, also of one in the body of a
 /// loop: each set among its indices has one dimension, and each amount of a lag is a number or a
-/// scalar, which is the same at all elements.
+/// name without suffix and indices, so it is the same at all elements.
 pub fn left_laws<F: ExactField>()
     ensures { (program : Program F) (solvers : List (List ℕ)) (before : List (Stmt F)) (outer inner : Stmt F) (depth : ℕ)
         (target : Target F) (condition : Option (Expr F)) (right_at : Place) (right : Expr F) →
@@ -64,11 +69,11 @@ pub fn left_laws<F: ExactField>()
         AreTargetIndices (known_after F.value program solvers (sound before)).state (index_list target.indices) }
 {}
 
-/// What is loaded of a program that has no compile error with solvers of some names, before its
-/// first statement acts. A set has the tuples of its items and no other. A parameter has at each
-/// tuple the value of the item that has it, and 0 elsewhere. A variable has the bounds of its type
-/// and an equation none, with level and marginal 0. A set, a parameter and an equation have the
-/// positions of their declaration. A name that no statement declares has nothing.
+/// The state of an accepted program before its first statement acts. A set has the tuples of its
+/// items and no other. A parameter has at each tuple the value of the item that has the tuple, and
+/// 0 if no item has the tuple. A variable has the bounds of its type, an equation has no bounds,
+/// and both have level and marginal 0. A set, a parameter and an equation have the positions of
+/// their declaration. A name that no statement declares has neither positions nor content.
 ///
 /// GAMS User's Guide, "Set Definition"; "Data Entry: Parameters, Scalars and Tables"; "Variables".
 pub fn load_laws<F: ExactField>()

@@ -14,11 +14,11 @@ use gms_store::Store;
 use gq_field::ExactField;
 use std::alloc::{AllocError, Global};
 
-/// The state in which an accepted program begins: what it declares with all its data, the entries
-/// of tables among them, and nothing else given.
+/// The state in which an accepted program begins: the names that it declares, with all their data,
+/// the entries of tables among them, and no other data. The error is out of memory.
 ///
-/// The program has no compile error, for solvers of some names. GAMS User's Guide, "Data Entry:
-/// Parameters, Scalars and Tables".
+/// The program is accepted if it has no compile error for some names of solvers. GAMS User's Guide,
+/// "Data Entry: Parameters, Scalars and Tables".
 pub fn load<F: ExactField>(alloc: Global, program: &Program<F>) -> Result<Store<F>, AllocError>
     requires { IsAccepted F.value program.now }
     ensures { IfOk result (λ store. store ≡ loaded F.value program.now) }

@@ -1,4 +1,4 @@
-//! The check of options: their words, and what they are set to.
+//! The check of options: their words, and their values.
 ghost use Rattle.std.specs.Prelude.{◌≡◌, flat_map, not};
 ghost use Rattle.std.specs.Str.{str_eq_ignore_ascii_case};
 ghost use Rattle.gms_check.specs.InnerChecking.{noted, seen};
@@ -25,20 +25,20 @@ const IGNORED: [&str; 12] = [
     "dnlp", "mcp",
 ];
 
-/// What an option is.
+/// The kind of an option, which determines the values that it admits.
 #[derive(Clone, Copy, Debug, PartialEq, Eq)]
 pub enum OptionWord {
-    /// `limrow`, `limcol` or `iterlim`: a whole number.
+    /// `limrow`, `limcol` or `iterlim`: an integer up to 2,147,483,647.
     Count,
-    /// `decimals`: a whole number up to 8.
+    /// `decimals`: an integer up to 8.
     Decimals,
     /// `solprint`: `on` or `off`.
     Switch,
     /// `lp`: the name of a solver.
     Solver,
-    /// One that is accepted without effect.
+    /// An option that is accepted with any value, without effect.
     Ignored,
-    /// No option.
+    /// A word that is no option.
     Unknown,
 }
 
@@ -78,7 +78,8 @@ impl OptionWord {
 }
 
 impl<'s, F: ExactField> Checker<'s, F> {
-    /// Checks options.
+    /// Checks the options of a statement: that each word is an option, and that the option admits
+    /// the value.
     pub fn options(&mut self, settings: &[(Word, Setting<F>)])
         ensures { seen self.new ≡ noted F.value (seen self.old) (flat_map option_uses settings.now) }
     {
@@ -123,7 +124,7 @@ impl<'s, F: ExactField> Checker<'s, F> {
     }
 }
 
-/// Whether a text is this word, letter case ignored.
+/// Whether `text` is the same as `word`, letter case ignored.
 pub fn is_word(text: &[u8], word: &str) -> bool
     ensures { result ≡ str_eq_ignore_ascii_case text.now word.now }
 {

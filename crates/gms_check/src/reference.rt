@@ -20,8 +20,8 @@ use gq_field::ExactField;
 use std::alloc::AllocError;
 
 impl<'s, F: ExactField> Checker<'s, F> {
-    /// Checks a reference except for the amounts of its lags. Answers whether it is a variable
-    /// without suffix.
+    /// Checks a reference in a context, except for the amounts of its lags. The errors are noted at
+    /// the place of the name. The result is whether the reference is to a variable without suffix.
     pub fn reference(
         &mut self,
         context: Context,
@@ -54,7 +54,9 @@ impl<'s, F: ExactField> Checker<'s, F> {
         }
     }
 
-    /// Checks a name, which its context admits or not, and its indices against its positions.
+    /// Checks a name and its indices: the name and the sets among the indices are declared, and the
+    /// indices fit the positions of the name. `occurs` is whether the context admits the name; if
+    /// not, this is an error too.
     pub fn named(
         &mut self,
         named: Named,
@@ -81,7 +83,7 @@ impl<'s, F: ExactField> Checker<'s, F> {
         Ok(())
     }
 
-    /// Checks displayed items.
+    /// Checks the items that a `display` or an `abort` shows.
     pub fn shows(&mut self, items: &[Show])
         ensures { seen self.new ≡ noted F.value (seen self.old) (flat_map show_uses items.now) }
     {

@@ -18,7 +18,8 @@ use gq_field::ExactField;
 use std::alloc::AllocError;
 
 impl<'s, F: ExactField> Checker<'s, F> {
-    /// Checks the two names of an alias: one is a set that is declared, and the other is new.
+    /// Checks the two names of an alias: exactly one is to be declared before, and that one has to
+    /// be a set.
     pub fn alias(&mut self, first: Named, second: Named)
         ensures { seen self.new
             ≡ noted F.value (seen self.old) ((first.at, first_alias first.name second.name) ∷ (second.at, second_alias first.name second.name) ∷ []) }
@@ -33,7 +34,8 @@ impl<'s, F: ExactField> Checker<'s, F> {
         self.require(second_occurs, ErrorKind::WrongKind, second.at);
     }
 
-    /// Checks a declaration of models, and declares them.
+    /// Checks a declaration of models, and declares their names. If the statement has no error, the
+    /// models get their equations.
     pub fn models(&mut self, models: &[ModelDecl]) -> Result<(), AllocError>
         ensures first { OnOk result ((seen self.new).first ≡
             sooner (seen self.old).first (first_error (model_errors (known_of F.value (seen self.old)) models.now))) }
@@ -101,7 +103,9 @@ impl<'s, F: ExactField> Checker<'s, F> {
         self.known.list(name, equations)
     }
 
-    /// Checks a solve.
+    /// Checks a solve: that its model is a model whose equations are all defined, that `method`,
+    /// the word after `using`, is `lp`, and that its objective is a free variable without
+    /// positions.
     pub fn solve(&mut self, model: Named, method: &Word, objective: Named)
         ensures { seen self.new
             ≡ noted F.value (seen self.old)

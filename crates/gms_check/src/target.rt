@@ -1,5 +1,5 @@
-//! The check of left sides: what is assigned or defined, the amounts of its lags, and the sets that
-//! it controls.
+//! The check of left sides: the name that is assigned or defined, the amounts of its lags, and the
+//! sets that it controls.
 ghost use Rattle.std.specs.Prelude.{◌≡◌, ◌∷◌, ◌&&◌, [], option_map, OnOk};
 ghost use Rattle.gms_ast.specs.TreeView.{tree_of};
 ghost use Rattle.gms_check.specs.InnerChecking.{known_of, noted, seen, with_controlled};
@@ -22,7 +22,8 @@ use gq_field::ExactField;
 use std::alloc::AllocError;
 
 impl<'s, F: ExactField> Checker<'s, F> {
-    /// Checks what an assignment assigns, except for the amounts of its lags.
+    /// Checks what an assignment assigns: the name, the suffix and the indices, except for the
+    /// amounts of lags.
     pub fn target(&mut self, target: &Target<F>) -> Result<(), AllocError>
         ensures { OnOk result (seen self.new
             ≡ noted F.value (seen self.old) ((target.now.at, assigning target.now.name target.now.suffix (index_list target.now.indices)) ∷ [])) }
@@ -37,7 +38,8 @@ impl<'s, F: ExactField> Checker<'s, F> {
         Ok(())
     }
 
-    /// Checks an equation that is defined.
+    /// Checks the equation that a definition defines, with its indices, and that no statement
+    /// before defines it.
     pub fn defined_equation(
         &mut self,
         equation: Named,
@@ -53,7 +55,7 @@ impl<'s, F: ExactField> Checker<'s, F> {
         Ok(())
     }
 
-    /// Checks an equation that is listed in a model.
+    /// Checks a name that is listed in a model: it has to be that of an equation.
     pub fn listed_equation(&mut self, named: Named)
         ensures { seen self.new ≡ noted F.value (seen self.old) ((named.at, listing named.name) ∷ []) }
     {
@@ -62,7 +64,7 @@ impl<'s, F: ExactField> Checker<'s, F> {
         self.require(equation, ErrorKind::WrongKind, named.at);
     }
 
-    /// Controls the sets among the indices of a left side.
+    /// Adds the sets among the indices of a left side to the controlled ones.
     pub fn control_indices(&mut self, indices: &[Index<F>]) -> Result<(), AllocError>
         ensures { OnOk result (seen self.new ≡ with_controlled (seen self.old) (index_sets (index_list indices.now))) }
     {
@@ -73,7 +75,8 @@ impl<'s, F: ExactField> Checker<'s, F> {
         Ok(())
     }
 
-    /// Checks the amounts of lags on the left.
+    /// Checks the amounts of lags on the left of an assignment or a definition: each is an integer
+    /// literal or a scalar.
     pub fn left_amounts(&mut self, indices: &[Index<F>]) -> Result<(), AllocError>
         ensures { OnOk result (seen self.new ≡ noted F.value (seen self.old) (shift_uses (seen self.old).controlled (index_list indices.now))) }
     {
@@ -128,7 +131,8 @@ impl<'s, F: ExactField> Checker<'s, F> {
         }
     }
 
-    /// Checks a condition, if there is one.
+    /// Checks the condition of the statement at the place `at`; `None` is no condition and has no
+    /// error.
     pub fn condition(&mut self, condition: &Option<Expr<F>>, at: Place) -> Result<(), AllocError>
         ensures { OnOk result (seen self.new
             ≡ noted F.value (seen self.old) (condition_uses at (seen self.old).controlled (option_map tree_of condition.now))) }
@@ -140,7 +144,7 @@ impl<'s, F: ExactField> Checker<'s, F> {
     }
 }
 
-/// Whether a number is whole.
+/// Whether a number of the field is an integer.
 pub fn is_whole<F: ExactField>(value: F) -> bool
     ensures { result ≡ is_whole (F.value value) }
 {

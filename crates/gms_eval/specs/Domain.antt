@@ -13,39 +13,38 @@ use Rattle.gms_eval.specs.Faults.{Answer, Fault, nothing, ◌and_then◌}
 use Rattle.gms_eval.specs.Lag.{label_of_element}
 use Rattle.gms_eval.specs.declared.stop.StopKind.TheVariants.{DomainSize}
 
--- the labels of a set of one dimension
+-- the labels of the members of a one-dimensional set, in order
 abbrev pub labels_of : State → ℕ → List ℕ
 labels_of state set = map label_of_element (members_of state set)
 
--- the members of a set have one label each, and are in order
+-- each member of the set has one label, and the members are in order
 abbrev pub IsSimple : State → ℕ → Type 0
 IsSimple state set =
     IsOrdered (members_of state set) × ((member : List ℕ) → has (members_of state set) member ≡ true → length member ≡ 1)
 
--- the elements of the product of sets; an element has at most 10 labels, so the product of more
--- sets is empty
+-- the elements of the product of sets, in order. An element has at most 10 labels, so the product
+-- of more sets is empty
 abbrev pub elements : State → List ℕ → List (List ℕ)
 elements state sets = if nat_le (length sets) 10 then tuple_product (map (labels_of state) sets) else []
 
--- how many elements the product of the sets of a domain may have
+-- how many elements the product of the sets of a domain may have at most
 abbrev pub most_elements : ℕ
 most_elements = 16777216
 
--- how many elements are counted at most: the greatest number of a `u64`
+-- the greatest number of elements that a fault reports: the greatest `u64`
 abbrev pub most_counted : ℕ
 most_counted = 18446744073709551615
 
--- the fault of a domain with `count` elements; the reported count is at most the greatest that is
--- counted
+-- the fault of a domain whose product has `count` elements; it reports at most the greatest `u64`
 abbrev pub too_large : Place → Pairs → ℕ → Fault
 too_large at binding count =
     record { kind = DomainSize; at = at; binding = binding; left = nothing; right = nothing; count = min count most_counted }
 
--- a product with more elements than are allowed is a fault
+-- the elements of a product, or the fault DomainSize if they are more than is allowed
 abbrev pub sized : Place → Pairs → List (List ℕ) → Answer (List (List ℕ))
 sized at binding those = if nat_lt most_elements (length those) then Err (too_large at binding (length those)) else Ok those
 
--- the elements for which a test holds, in their order, or the first fault of a test
+-- the elements for which the test holds, in their order, or the first fault of a test
 abbrev pub those_where : (List ℕ → Answer Bool) → List (List ℕ) → Answer (List (List ℕ))
 those_where test [] = Ok []
 those_where test (element ∷ rest) =

@@ -12,7 +12,7 @@ use Rattle.gms_eval.specs.declared.stop.StopKind.TheVariants.{Limit, Divide, Lag
 
 -- ---- kinds
 
--- the number of a kind
+-- the number of a kind of fault
 abbrev pub stop_code : StopKind → ℕ
 stop_code Limit = 1
 stop_code Divide = 2
@@ -26,7 +26,7 @@ stop_code NoSolver = 10
 stop_code Aborted = 11
 stop_code Undefined = 12
 
--- the name of a kind
+-- the name of a kind of fault
 abbrev pub stop_name : StopKind → List ℕ
 stop_name Limit = codes "Limit"
 stop_name Divide = codes "Divide"
@@ -40,7 +40,7 @@ stop_name NoSolver = codes "NoSolver"
 stop_name Aborted = codes "Aborted"
 stop_name Undefined = codes "Undefined"
 
--- the kind of the fault that a step on extended numbers has
+-- the kind of the fault of an expression, from that of an operation on extended numbers
 abbrev pub kind_of_step : ExtendedFault → StopKind
 kind_of_step step.Limit = Limit
 kind_of_step step.Divide = Divide
@@ -49,8 +49,9 @@ kind_of_step step.Exponent = Exponent
 
 -- ---- faults
 
--- A fault: its kind, its place, the binding under which the step is taken, the operands of the step
--- (0 if it has none), and how many elements there are (0 for other kinds than too many elements).
+-- A fault of an operation: its kind, its place in the source, the labels that the controlled sets
+-- have there, the operands (0 if it has none), and the number of elements if the kind is
+-- DomainSize, otherwise 0.
 pub record Fault : Type 0 where
   pub kind : StopKind
   pub at : Place
@@ -59,28 +60,29 @@ pub record Fault : Type 0 where
   pub right : Extended
   pub count : ℕ
 
--- 0, for a missing operand and for a value that was never given
+-- 0, for a missing operand and for an entry without data
 abbrev pub nothing : Extended
 nothing = number (whole (pos 0))
 
--- the fault of a step
+-- the fault of an operation on these operands
 abbrev pub faulted : StopKind → Place → Pairs → Extended → Extended → Fault
 faulted kind at binding left right =
     record { kind = kind; at = at; binding = binding; left = left; right = right; count = 0 }
 
 -- ---- answers
 
--- what an expression gives: a value, or its first fault
+-- the result of an evaluation: a value, or its first fault
 abbrev pub Answer : Type 0 → Type 0
 Answer A = Result A Fault
 
 infixl 10 ◌and_then◌
--- where an answer has a value the next step takes it; a fault remains
+-- the answer of `next` for the value of an answer; a fault stays
 abbrev pub ◌and_then◌ : {A B : Type 0} → Answer A → (A → Answer B) → Answer B
 (Ok x) and_then next = next x
 (Err fault) and_then next = Err fault
 
--- the answer of a step at a place under a binding
+-- the answer of an operation with this outcome: its value, or its fault at this place, with the
+-- binding and the operands
 abbrev pub taken : Place → Pairs → Extended → Extended → Outcome → Answer Extended
 taken at binding left right (Ok x) = Ok x
 taken at binding left right (Err fault) = Err (faulted (kind_of_step fault) at binding left right)

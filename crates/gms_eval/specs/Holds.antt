@@ -7,6 +7,7 @@ use Rattle.gms_eval.specs.Bindings.{Pairs}
 use Rattle.gms_eval.specs.Faults.{Answer}
 use Rattle.gms_eval.specs.Value.{value, when_so}
 
--- a condition holds where its value is not the number 0
+-- whether a condition holds in a state, under a binding: its value is not the number 0. If its
+-- evaluation has a fault, the answer is the first one
 abbrev pub holds : {F : Type 0} → (F → Number) → ℕ → State → Pairs → Tree F → Answer Bool
 holds number_of limit state binding condition = when_so (value number_of limit state binding condition)

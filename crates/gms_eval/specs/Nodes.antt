@@ -1,6 +1,6 @@
--- How the answers of the parts of an expression give that of the whole (GAMS User's Guide, "Data
+-- How the answer of an expression results from those of its operands (GAMS User's Guide, "Data
 -- Manipulations with Parameters", "Conditional Expressions, Assignments and Equations"). The order
--- in which faults are found is this project's own rule: parts from the left to the right, guards
+-- in which faults are found is this project's own rule: operands from the left to the right, guards
 -- from the last to the first.
 use Rattle.std.specs.Prelude.{ℕ, pos, Bool, true, false, not, ◌&&◌, List, [], ◌∷◌, map, fold, Option, Some, None, Ok, Err, if◌then◌else◌}
 use Rattle.gms_labels.specs.declared.place.Place.{Place}
@@ -23,12 +23,12 @@ use Rattle.gms_eval.specs.declared.stop.StopKind.TheVariants.{EmptyExtreme}
 
 -- ---- truth
 
--- a value holds where it is not the number 0
+-- whether a value holds as a condition: it is not the number 0
 abbrev pub is_so : Extended → Bool
 is_so (number x) = not (is_zero x)
 is_so value = true
 
--- 1 for what holds and 0 for what does not
+-- 1 for true and 0 for false
 abbrev pub truth : Bool → Extended
 truth true = number (whole (pos 1))
 truth false = number (whole (pos 0))
@@ -44,49 +44,52 @@ holds_between Gt x y = is_greater x y
 
 -- ---- parts in sequence
 
--- the answers of the parts of a node, each with its mark
+-- the answers of the operands of a node, each with its mark: the sign, relation or place that comes
+-- with the operand
 abbrev pub Marked : Type 0
 Marked = List (Mark × Answer Extended)
 
--- the answers alone
+-- the answers without their marks
 abbrev pub unmarked : Marked → List (Answer Extended)
 unmarked parts = map (λ part. part.1) parts
 
--- a step: from the mark of a part, the value so far and the answer of the part
+-- an operation of a chain: from the mark of the next operand, the value so far and the answer of
+-- that operand to the next value
 abbrev pub ValueStep : Type 0
 ValueStep = Mark → Extended → Answer Extended → Answer Extended
 
--- the parts joined in sequence to the value so far. Without such a value the first part gives it;
--- without parts either the answer is that for nothing.
+-- the answer of a chain from here on: each operand is joined to the value so far by `step`. Without
+-- a value so far the first operand is that value; without operands either, the answer is `empty`
 abbrev pub joined : ValueStep → Answer Extended → Option Extended → Marked → Answer Extended
 joined step empty None [] = empty
 joined step empty (Some x) [] = Ok x
 joined step empty None (part ∷ parts) = part.1 and_then λ x. joined step empty (Some x) parts
 joined step empty (Some x) (part ∷ parts) = step part.0 x part.1 and_then λ y. joined step empty (Some y) parts
 
--- the first part joined with the others
+-- the answer of a chain: the first operand, joined with each further one by `step`; 0 without
+-- operands
 abbrev pub chain : ValueStep → Marked → Answer Extended
 chain step parts = joined step (Ok nothing) None parts
 
--- the values of answers in order, or the first fault
+-- the values of answers, in order, or the first fault
 abbrev pub in_order : {A : Type 0} → List (Answer A) → Answer (List A)
 in_order [] = Ok []
 in_order (answer ∷ answers) = answer and_then λ x. in_order answers and_then λ xs. Ok (x ∷ xs)
 
--- whether each guard holds: they are evaluated from the last to the first, up to one that does not
--- hold
+-- whether all guards hold, or the first fault: they are evaluated from the last to the first, up to
+-- one that does not hold
 abbrev pub each_holds : List (Answer Extended) → Answer Bool
 each_holds [] = Ok true
 each_holds (guard ∷ guards) = each_holds guards and_then λ hold. if hold then guard and_then (λ x. Ok (is_so x)) else Ok false
 
 -- ---- values
 
--- the best of some values
+-- the best of some values, where `better` gives the better of two; 0 without values
 abbrev pub extreme : (Extended → Extended → Extended) → List Extended → Extended
 extreme better [] = nothing
 extreme better (x ∷ xs) = fold better x xs
 
--- the initial value of a fold; minimum and maximum have none
+-- the initial value of a fold; `smin` and `smax` have none
 abbrev pub start_of : FoldOp → Option Extended
 start_of Sum = Some (number (whole (pos 0)))
 start_of Prod = Some (number (whole (pos 1)))
@@ -95,20 +98,23 @@ start_of Smax = None
 
 -- ---- steps that have no fault
 
--- a relation compares the value so far; the result of an earlier relation is 1 or 0
+-- the operation of a relation: 1 if the value so far, which may be the result of a relation before,
+-- has the relation to the operand, otherwise 0
 abbrev pub relation_step : ValueStep
 relation_step (related op) x answer = answer and_then λ y. Ok (truth (holds_between op x y))
 relation_step mark x answer = answer
 
--- `and` does not evaluate its right operand if the left is 0
+-- the operation `and`: 1 if both operands hold, otherwise 0. The right one is not evaluated if the
+-- left is 0
 abbrev pub all_step : ValueStep
 all_step mark x answer = if is_so x then answer and_then (λ y. Ok (truth (is_so y))) else Ok (truth false)
 
--- the result of `xor` on two values
+-- whether exactly one of two values is not the number 0
 abbrev pub exclusive_or : Extended → Extended → Bool
 exclusive_or x y = if is_so x then not (is_so y) else is_so y
 
--- `or` does not evaluate its right operand if the left is not 0; `xor` evaluates both
+-- the operation `or`: 1 if an operand holds, otherwise 0, where the right one is not evaluated if
+-- the left holds; or, if `exclusive`, `xor`: 1 if exactly one holds, otherwise 0
 abbrev pub one_step : ValueStep
 one_step (chosen exclusive) x answer =
     if not exclusive && is_so x then Ok (truth true) else answer and_then λ y. Ok (truth (exclusive_or x y))
@@ -117,34 +123,38 @@ one_step mark x answer = answer
 -- ---- steps under a limit, at a place and under a binding
 
 module _ (limit : ℕ) (binding : Pairs) where
-  -- a sum or a difference, by the sign before the right operand
+  -- the operation of a sum: the operand is added to the value so far, or subtracted if its mark has
+  -- the flag
   abbrev pub sum_step : ValueStep
   sum_step (signed at subtracts) x answer =
       answer and_then λ y. taken at binding x y (if subtracts then difference limit x y else sum limit x y)
   sum_step mark x answer = answer
 
-  -- a product or a quotient
+  -- the operation of a product: the value so far is multiplied by the operand, or divided by it if
+  -- its mark has the flag
   abbrev pub product_step : ValueStep
   product_step (signed at divides) x answer =
       answer and_then λ y. taken at binding x y (if divides then quotient limit x y else product limit x y)
   product_step mark x answer = answer
 
-  -- the step of a sum, and that of a product
+  -- the operation of a sum, or that of a product
   abbrev pub signed_step : Signed → ValueStep
   signed_step signs.Sum = sum_step
   signed_step signs.Product = product_step
 
-  -- a power
+  -- the operation of a power: the value so far raised to the operand
   abbrev pub power_step : ValueStep
   power_step (placed at) x answer = answer and_then λ y. taken at binding x y (power limit x y)
   power_step mark x answer = answer
 
-  -- the remainder of a division, by its four steps, each at the place of the function
+  -- the remainder of the division of x by y: x minus y times the truncated quotient. A fault of one
+  -- of these operations is at the place of the function
   abbrev pub remainder_of : Place → Extended → Extended → Answer Extended
   remainder_of at x y =
       taken at binding x y (quotient limit x y) and_then λ q. taken at binding y (truncation q) (product limit y (truncation q)) and_then λ p. taken at binding x p (difference limit x p)
 
-  -- a function of one value
+  -- the value of a function of one argument, or its fault at the place `at`; 0 of any other
+  -- function
   abbrev pub of_one : Place → Function → Extended → Answer Extended
   of_one at function.Abs x = Ok (magnitude x)
   of_one at function.Sqr x = taken at binding x x (product limit x x)
@@ -155,14 +165,15 @@ module _ (limit : ℕ) (binding : Pairs) where
   of_one at function.Sign x = Ok (sign x)
   of_one at function x = Ok nothing
 
-  -- a function of two values
+  -- the value of a function of two arguments, or its fault at the place `at`; 0 of any other
+  -- function
   abbrev pub called_with_two : Place → Function → Extended → Extended → Answer Extended
   called_with_two at function.Mod x y = remainder_of at x y
   called_with_two at function.Power x y = taken at binding x y (power limit x y)
   called_with_two at function x y = Ok nothing
 
-  -- a function of its arguments' values; with another number of arguments its value is 0, as for a
-  -- function that the language leaves out
+  -- the value of a function of its arguments, or its fault at the place `at`; with a wrong number
+  -- of arguments, and of a function that the language leaves out, 0
   abbrev pub called : Place → Function → List Extended → Answer Extended
   called at function.Max xs = Ok (extreme greater xs)
   called at function.Min xs = Ok (extreme lesser xs)
@@ -170,23 +181,25 @@ module _ (limit : ℕ) (binding : Pairs) where
   called at function (x ∷ y ∷ []) = called_with_two at function x y
   called at function xs = Ok nothing
 
-  -- a count, if it fits
+  -- the number n as a value; the fault Limit if it does not fit under the limit of the size of
+  -- numbers
   abbrev pub count_value : Place → ℕ → Answer Extended
   count_value at n = taken at binding nothing nothing (number_if (fits limit (whole (pos n))) (whole (pos n)))
 
-  -- a step of a fold: the value so far with that of the next body
+  -- the value so far of a fold joined with that of its next body: their sum, product, lesser or
+  -- greater
   abbrev pub fold_join : FoldOp → Place → Extended → Extended → Answer Extended
   fold_join Sum at x y = taken at binding x y (sum limit x y)
   fold_join Prod at x y = taken at binding x y (product limit x y)
   fold_join Smin at x y = Ok (lesser x y)
   fold_join Smax at x y = Ok (greater x y)
 
-  -- a step of a fold
+  -- the operation of a fold: the value so far joined with that of the next body
   abbrev pub fold_step : FoldOp → Place → ValueStep
   fold_step op at mark x answer = answer and_then λ y. fold_join op at x y
 
-  -- the values of a fold's bodies, joined in sequence; each step is at the place of the fold and
-  -- under its binding. The least and the greatest of no values are a fault.
+  -- the answer of a fold with these bodies, each the answer for one element. The fault of an
+  -- operation is at the place of the fold; `smin` and `smax` of no bodies are a fault
   abbrev pub folded : FoldOp → Place → Marked → Answer Extended
   folded op at bodies =
       joined (fold_step op at) (Err (faulted EmptyExtreme at binding nothing nothing)) (start_of op) bodies

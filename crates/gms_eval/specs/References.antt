@@ -17,45 +17,49 @@ use Rattle.gms_eval.specs.declared.stop.StopKind.TheVariants.{LagNotWhole}
 
 -- ---- indices
 
--- the label that a lag of an amount reaches from the label of its set; none if the set has no label
+-- the label that a lag of this amount reaches from the label of its set; None beyond the end of the
+-- set, or if the set has no label. An amount that is no integer is a fault
 abbrev pub reached_label : State → Pairs → ℕ → LagOp → Place → Extended → Answer (Option ℕ)
 reached_label state binding set op at amount =
     ok_or (whole_number amount) (faulted LagNotWhole at binding amount nothing) and_then λ places. Ok (option_and_then (λ label. lagged_label (members_of state set) op places label) (label_of binding set))
 
--- the labels of indices, if each has one
+-- the labels, if every one exists; None if one does not
 abbrev pub all_there : List (Option ℕ) → Option (List ℕ)
 all_there [] = Some []
 all_there (None ∷ rest) = None
 all_there (Some label ∷ rest) = option_map (λ labels. label ∷ labels) (all_there rest)
 
--- the tuple of indices: a tuple has at most 10 labels
+-- the tuple of these labels; None if one does not exist or they are more than 10
 abbrev pub tuple_of : List (Option ℕ) → Option (List ℕ)
 tuple_of labels = if nat_le (length labels) 10 then all_there labels else None
 
--- the place of a set's label in the set, from 1; 0 if it has none
+-- the position, from 1, of a set's label among the members of the set; 0 if the set has no label in
+-- the binding, or one that is not a member
 abbrev pub place_in_set : State → Pairs → ℕ → ℕ
 place_in_set state binding set =
     unwrap_or (option_map (λ place. place + 1) (option_and_then (λ label. place_of_tuple (members_of state set) (label ∷ [])) (label_of binding set))) 0
 
 -- ---- entries
 
--- a lower bound; minus infinity if there is none
+-- the value of a lower bound; minus infinity if there is none
 abbrev pub lower_value : Option Number → Extended
 lower_value None = minus_infinity
 lower_value (Some x) = number x
 
--- an upper bound; infinity if there is none
+-- the value of an upper bound; infinity if there is none
 abbrev pub upper_value : Option Number → Extended
 upper_value None = plus_infinity
 upper_value (Some x) = number x
 
--- the value of a name without a suffix at a tuple: a set has 1 at its members and 0 at other tuples
+-- the value of a name without a suffix at a tuple: of a set 1 at its members and 0 elsewhere, of
+-- any other name its value there
 abbrev pub plain_value : State → ℕ → Content → List ℕ → Extended
 plain_value state name (set_of members) tuple = truth (has members tuple)
 plain_value state name content tuple = value_of state name tuple
 
 module _ (limit : ℕ) (state : State) (binding : Pairs) where
-  -- what a reference reads at a tuple
+  -- the value of the name at a tuple: without a suffix its value there, with one the bound, level,
+  -- marginal or status number that the suffix denotes; 0 for `.fx`
   abbrev pub read_entry : Place → ℕ → Suffix → List ℕ → Answer Extended
   read_entry at name suffix.None tuple = Ok (plain_value state name (symbol_of state name).content tuple)
   read_entry at name suffix.Lo tuple = Ok (lower_value (attributes_of state name tuple).lower)
@@ -66,7 +70,7 @@ module _ (limit : ℕ) (state : State) (binding : Pairs) where
   read_entry at name suffix.ModelStat tuple = count_value limit binding at (statuses_in (symbol_of state name).content).0
   read_entry at name suffix.SolveStat tuple = count_value limit binding at (statuses_in (symbol_of state name).content).1
 
-  -- what a reference reads; without a tuple of its indices, 0
+  -- the value of a reference at the tuple of its indices; 0 if its indices have no tuple (None)
   abbrev pub entry_or_zero : Place → ℕ → Suffix → Option (List ℕ) → Answer Extended
   entry_or_zero at name suffix None = Ok nothing
   entry_or_zero at name suffix (Some tuple) = read_entry at name suffix tuple

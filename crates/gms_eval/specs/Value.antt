@@ -1,6 +1,6 @@
--- The value of an expression in a state of the run, under the labels that its controlled sets stand
--- for (GAMS User's Guide, "Data Manipulations with Parameters", "Conditional Expressions,
--- Assignments and Equations", "Sets as Sequences: Ordered Sets").
+-- The value of an expression in a state of the run, under the labels of the controlled sets (GAMS
+-- User's Guide, "Data Manipulations with Parameters", "Conditional Expressions, Assignments and
+-- Equations", "Sets as Sequences: Ordered Sets").
 use Rattle.std.specs.Prelude.{ℕ, Bool, true, false, not, List, [], ◌∷◌, length, map, Option, Some, None, Ok, if◌then◌else◌}
 use Rattle.gms_labels.specs.declared.place.Place.{Place}
 use Rattle.gq_number.specs.Number.{Number}
@@ -15,23 +15,24 @@ use Rattle.gms_eval.specs.Domain.{elements, sized, those_where}
 use Rattle.gms_eval.specs.Faults.{Answer, nothing, ◌and_then◌}
 use Rattle.gms_eval.specs.References.{reached_label, tuple_of, place_in_set, entry_or_zero}
 
--- the sets of a control
+-- the sets of a control, without its condition
 abbrev pub sets_of : {F : Type 0} → tree.Control F → List ℕ
 sets_of (tree.over sets) = sets
 sets_of (tree.over_where sets condition) = sets
 
--- sets, with a condition if there is one
+-- the control of these sets with this condition, if there is one
 abbrev pub control_over : {F : Type 0} → List ℕ → Option (tree.Tree F) → tree.Control F
 control_over sets None = tree.over sets
 control_over sets (Some condition) = tree.over_where sets condition
 
--- whether a condition's answer holds
+-- whether a condition holds, from the answer of its value: the value is not the number 0; a fault
+-- remains the answer
 abbrev pub when_so : Answer Extended → Answer Bool
 when_so answer = answer and_then λ x. Ok (is_so x)
 
 module _ {F : Type 0} (number_of : F → Number) (limit : ℕ) (state : State) where
   abbrev mutual
-    -- the value of an expression
+    -- the value of an expression under a binding, or its first fault
     pub value : Pairs → tree.Tree F → Answer Extended
     value binding (tree.number n) = Ok (number (number_of n))
     value binding tree.plus_infinity = Ok plus_infinity
@@ -57,12 +58,13 @@ module _ {F : Type 0} (number_of : F → Number) (limit : ℕ) (state : State) w
     value binding (tree.guarded operand guards) =
         each_holds (unmarked (values binding guards)) and_then λ hold. if hold then value binding operand else Ok nothing
 
-    -- the answers of parts, each with its mark
+    -- the answers of the operands of a node, each with its mark
     pub values : Pairs → tree.Parts F → Marked
     values binding tree.no_part = []
     values binding (tree.part mark part rest) = (mark, value binding part) ∷ values binding rest
 
-    -- the label of each index; none if a lag goes past the ends of its set
+    -- the label of each index, or a fault of the amount of its lag; None if a lag goes beyond the
+    -- end of its set, or a set has no label
     pub labels : Pairs → tree.Indices F → List (Answer (Option ℕ))
     labels binding tree.no_index = []
     labels binding (tree.label label rest) = Ok (Some label) ∷ labels binding rest
@@ -70,20 +72,22 @@ module _ {F : Type 0} (number_of : F → Number) (limit : ℕ) (state : State) w
     labels binding (tree.lagged set op at amount rest) =
         (value binding amount and_then λ x. reached_label state binding set op at x) ∷ labels binding rest
 
-    -- the elements of a control: those of the product of its sets whose condition holds under the
-    -- binding with the element
+    -- the elements of a control: those of the product of its sets for which the condition holds
+    -- under the binding with the element; a product that is too large is a fault at the place `at`
     pub domain : Pairs → Place → tree.Control F → Answer (List (List ℕ))
     domain binding at (tree.over sets) = sized at binding (elements state sets)
     domain binding at (tree.over_where sets condition) =
         sized at binding (elements state sets) and_then λ all. those_where (λ element. when_so (value (controlled binding sets element) condition)) all
 
-  -- the label of the first of some indices
+  -- the label of the first of these indices, or a fault of the amount of its lag; None without
+  -- indices, beyond the end of the index's set, or if the set has no label
   abbrev pub first_label : Pairs → tree.Indices F → Answer (Option ℕ)
   first_label binding tree.no_index = Ok None
   first_label binding (tree.label n rest) = Ok (Some n)
   first_label binding (tree.set name rest) = Ok (label_of binding name)
   first_label binding (tree.lagged name op at amount rest) = value binding amount and_then λ x. reached_label state binding name op at x
 
-  -- the label of an index
+  -- the label of an index, or a fault of the amount of its lag; None beyond the end of the index's
+  -- set, or if the set has no label
   abbrev pub label_answer : Pairs → Index F → Answer (Option ℕ)
   label_answer binding index = first_label binding (index_tree index tree.no_index)

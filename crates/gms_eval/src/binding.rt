@@ -1,16 +1,16 @@
-//! The labels that sets stand for within a fold, a loop or an assignment.
+//! The labels that controlled sets have within a fold, a loop or an assignment.
 ghost use Rattle.std.specs.Prelude.{◌≡◌, ◌∷◌, ◌++◌, [], length, take, IfOk, OnOk};
 ghost use Rattle.gms_eval.specs.Bindings.{label_of, paired};
 
 use std::alloc::{AllocError, Global};
 use std::marker::Model;
 
-/// The sets that are controlled at a place of a program, each with its label there, outermost
-/// first.
+/// The sets that are controlled at a place in a program, each in a pair with the label that it has
+/// there, outermost first.
 ///
 /// In `loop(i, s = sum(j, p(i,j)))` the entry `p(i,j)` is read under a binding of `i` and of `j`,
-/// each to a label. Sets are named by the numbers of their names, so a set and an alias of it may
-/// stand for two labels. GAMS User's Guide, "Data Manipulations with Parameters".
+/// each to a label. A set is given by the number of its name, so a set and an alias of it may have
+/// different labels. GAMS User's Guide, "Data Manipulations with Parameters".
 #[derive(Debug)]
 pub struct Binding {
     pairs: Vec<(u32, u32)>,
@@ -32,7 +32,7 @@ impl Model for Binding {
 }
 
 impl Binding {
-    /// The binding of no sets.
+    /// A binding without pairs: no set is controlled.
     pub fn new(alloc: Global) -> Binding
         ensures { result ≡ [] }
     {
@@ -41,7 +41,8 @@ impl Binding {
         }
     }
 
-    /// The binding with one more set at its end, which stands for this label.
+    /// A copy of the binding with one more pair at the end: the set with this name number, and this
+    /// label.
     pub fn extended(&self, alloc: Global, set: u32, label: u32) -> Result<Binding, AllocError>
         ensures { IfOk result (λ binding. binding ≡ self.now ++ (set, label) ∷ []) }
     {
@@ -50,8 +51,8 @@ impl Binding {
         Ok(binding)
     }
 
-    /// The label that a set stands for: that of the first pair with its name; none exactly where no
-    /// pair has it.
+    /// The label of the set with this name number, which is the label of the first pair of the set;
+    /// `None` if the set has no pair.
     pub fn label(&self, set: u32) -> Option<u32>
         ensures { result ≡ label_of self.now set }
     {
@@ -63,14 +64,14 @@ impl Binding {
         None
     }
 
-    /// The sets and their labels, in order.
+    /// The pairs, outermost first: the number of a set's name, and the label of the set.
     pub fn pairs(&self) -> &[(u32, u32)]
         ensures { result.now ≡ self.now }
     {
         self.pairs.as_slice()
     }
 
-    /// An equal binding.
+    /// A copy of the binding, with the same pairs in the same order.
     pub fn copy(&self, alloc: Global) -> Result<Binding, AllocError>
         ensures { IfOk result (λ copy. copy ≡ self.now) }
     {
@@ -79,14 +80,16 @@ impl Binding {
         })
     }
 
-    /// How many sets there are.
+    /// How many pairs of a set and a label the binding has.
     pub fn len(&self) -> usize
         ensures { result ≡ length self.now }
     {
         self.pairs.len()
     }
 
-    /// Keeps the first `outer` pairs, and appends these sets with the labels of an element.
+    /// Keeps the first `outer` pairs, drops the others, and appends a pair of each set of `sets`
+    /// and the label at the same position in `labels`. If one list is longer, its further entries
+    /// have no effect. No contract states which pairs remain after out of memory.
     pub fn control(&mut self, outer: usize, sets: &[u32], labels: &[u32]) -> Result<(), AllocError>
         ensures { OnOk result (self.new ≡ take outer self.old ++ paired sets.now labels.now) }
     {

@@ -1,4 +1,4 @@
-//! The elements of the product of sets, by their numbers.
+//! The elements of the product of sets, by their indices.
 ghost use Rattle.std.specs.Prelude.{◌≡◌, ◌<◌, [], min, length, slice_index_or, IfOk, OnOk};
 ghost use Rattle.gms_eval.specs.Domain.{most_counted, elements, sized};
 ghost use Rattle.gms_eval.specs.Gives.{Gives};
@@ -13,10 +13,10 @@ use gms_tuple::{MOST_LABELS, Tuple};
 use gq_field::ExactField;
 use std::alloc::{AllocError, Global};
 
-/// How many elements the product of the sets of a domain may have.
+/// How many elements the product of the sets of a domain may have at most.
 pub(crate) const MOST_ELEMENTS: u64 = 16_777_216;
 
-/// How many elements the product of sets has, at most the greatest `u64`.
+/// How many elements the product of sets has, or the greatest `u64` if they are more.
 pub(crate) fn count<F: ExactField>(store: &Store<F>, sets: &[u32]) -> u64
     ensures { result ≡ min (length (elements store.now sets.now)) most_counted }
 {
@@ -30,8 +30,8 @@ pub(crate) fn count<F: ExactField>(store: &Store<F>, sets: &[u32]) -> u64
     count
 }
 
-/// How many elements the product of sets has. `DomainSize` exactly where they are more than
-/// 16,777,216.
+/// How many elements the product of sets has. The error `DomainSize` comes if and only if they are
+/// more than 16,777,216.
 #[inline(never)]
 pub(crate) fn size<F: ExactField>(
     alloc: Global,
@@ -50,7 +50,7 @@ pub(crate) fn size<F: ExactField>(
     Ok(count as usize)
 }
 
-/// The element of this number among those of the product of sets, of which there are `size`.
+/// The element at the index `number` among the `size` elements of the product of sets.
 pub(crate) fn element<F: ExactField>(
     alloc: Global,
     store: &Store<F>,
@@ -74,7 +74,7 @@ pub(crate) fn element<F: ExactField>(
     Ok(element)
 }
 
-/// All elements of the product of sets, of which there are `size`.
+/// All elements of the product of sets, which are `size`, in order.
 pub(crate) fn all<F: ExactField>(
     alloc: Global,
     store: &Store<F>,
@@ -91,7 +91,7 @@ pub(crate) fn all<F: ExactField>(
     Ok(all)
 }
 
-/// Adds an element at the end of others, if a condition holds for it.
+/// Appends an element to `those` if `holds`.
 #[inline(never)]
 pub(crate) fn keep(those: &mut Vec<Tuple>, element: Tuple, holds: bool) -> Result<(), AllocError>
     ensures { OnOk result (those.new.items ≡ with_element those.old.items element holds) }
@@ -102,17 +102,17 @@ pub(crate) fn keep(those: &mut Vec<Tuple>, element: Tuple, holds: bool) -> Resul
     Ok(())
 }
 
-/// The elements that are tested.
+/// The elements at which a condition is to be tested.
 #[derive(Drop)]
 pub(crate) enum Elements {
-    /// All of the product of the sets; how many they are.
+    /// All elements of the product of the sets, with their number.
     Every(usize),
-    /// The listed ones.
+    /// The listed elements.
     Those(Vec<Tuple>),
 }
 
 impl Elements {
-    /// How many there are.
+    /// How many elements there are.
     pub(crate) fn count<F: ExactField>(&self, store: &Store<F>, sets: &[u32]) -> usize
         requires { IsCounted store.now sets.now self.now }
         ensures { result ≡ length (those_of store.now sets.now self.now) }
@@ -123,7 +123,7 @@ impl Elements {
         }
     }
 
-    /// The element of a number.
+    /// The element at the index `number`.
     pub(crate) fn element<F: ExactField>(
         &self,
         alloc: Global,

@@ -33,19 +33,20 @@ use gq_extended::Ext;
 use gq_field::ExactField;
 use std::alloc::Global;
 
-/// The value of an expression in a state, where its controlled sets stand for the labels of a
-/// binding.
+/// The value of the expression `e` in the state `store`, under the labels that the binding `b`
+/// gives the controlled sets.
 ///
-/// A stop is the first fault. Parts are evaluated from the left to the right, guards from the last
-/// to the first and before their operand, all amounts of the lags of a reference before what it
-/// reads, and a fold's domain before its bodies. An operand that decides nothing is not evaluated:
-/// the right one of `and` where the left is 0, that of `or` where it is not, and one under a guard
-/// that is 0. The kinds are `Limit`, `Divide`, `LagNotWhole`, `EmptyExtreme`, `Exponent`,
-/// `DomainSize` and `Undefined`. GAMS User's Guide, "Data Manipulations with Parameters",
-/// "Conditional Expressions, Assignments and Equations".
+/// A stop is the first fault. Operands are evaluated from the left to the right, guards from the
+/// last to the first and before their operand, all amounts of the lags of a reference before the
+/// data that the reference reads, and a fold's domain before its bodies. An operand that decides
+/// nothing is not evaluated: the right operand of `and` if the left one is 0, the right operand of
+/// `or` if the left one is not 0, and an operand under a guard that is 0. The kinds of stop are
+/// `Limit`, `Divide`, `LagNotWhole`, `EmptyExtreme`, `Exponent`, `DomainSize` and `Undefined`. GAMS
+/// User's Guide, "Data Manipulations with Parameters", "Conditional Expressions, Assignments and
+/// Equations".
 ///
-/// A name that the program does not have reads as one without data, and a set without a label as an
-/// index without an element; a checked program has neither.
+/// A name that the program does not have reads as a name without data, and a set without a label in
+/// the binding as an index without an element; a checked program has neither.
 #[cycle(value)]
 pub fn value<F: ExactField>(
     alloc: Global,
@@ -176,11 +177,12 @@ fn denied<F: ExactField>(
     Ok(truth(!is_so(x)))
 }
 
-/// The value of a sum or a product of parts, joined from the left to the right; that of no parts is
-/// 0.
+/// The value of a sum or a product, as `kind` says, whose operands are joined from the left to the
+/// right; 0 without operands.
 ///
-/// Each part has its place, and whether it is subtracted, or divides; for the first part that has
-/// no effect. A stop is the first fault of a part or a step.
+/// Each entry of `parts` is the place of an operand in the source, whether a sum subtracts the
+/// operand or a product divides by it, and the operand. For the first operand the place and the
+/// bool have no effect. A stop is the first fault of an operand or an operation.
 #[cycle(value)]
 #[inline(never)]
 pub fn signed_chain<F: ExactField>(
@@ -290,8 +292,8 @@ fn one_of<F: ExactField>(
     Ok(so_far.unwrap_or(zero()))
 }
 
-/// Whether each guard holds: they are evaluated from the last to the first, up to one that does not
-/// hold.
+/// Whether all guards hold; true if there is no guard. They are evaluated from the last to the
+/// first, up to one that does not hold. A stop is the first fault of an evaluated guard.
 #[cycle(value)]
 #[inline(never)]
 pub fn all_hold<F: ExactField>(
@@ -331,7 +333,9 @@ fn arguments<F: ExactField>(
     Ok(values)
 }
 
-/// The tuple of indices, if each has a label and they are at most 10.
+/// The tuple of the labels that the indices have, in order; `None` if an index has no label or
+/// there are more than 10 indices. A stop is the first fault of a lag: a fault in the evaluation of
+/// the amount, or `LagNotWhole` if the amount is not a whole number.
 #[cycle(value)]
 #[inline(never)]
 pub fn tuple_of<F: ExactField>(
@@ -466,10 +470,11 @@ fn folded<F: ExactField>(
     }
 }
 
-/// Whether a condition holds in a state, under a binding: where its value is not the number 0.
+/// Whether the condition `e` holds in the state `store`, under the binding `b`: the value of the
+/// condition is not the number 0.
 ///
-/// A stop is the first fault of its value. GAMS User's Guide, "Conditional Expressions, Assignments
-/// and Equations".
+/// A stop is the first fault in the evaluation of the condition. GAMS User's Guide, "Conditional
+/// Expressions, Assignments and Equations".
 pub fn holds<F: ExactField>(
     alloc: Global,
     store: &Store<F>,
@@ -481,12 +486,14 @@ pub fn holds<F: ExactField>(
     Ok(is_so(value(alloc, store, e, b)?))
 }
 
-/// The elements of a control in a state, under a binding: those of the product of its sets whose
-/// condition holds, in the order of tuples.
+/// The elements of the control `c`, such as `(i,j)$p(i,j)`, in the state `store`, under the binding
+/// `b`: those elements of the product of its sets for which its condition, if any, holds, in the
+/// order of tuples.
 ///
-/// A stop is `DomainSize` at `at` if the product has more than 16,777,216 elements, with their
-/// number as its count, or the greatest `u64`. Otherwise it is the first fault of the conditions,
-/// each under the binding with its element. GAMS User's Guide, "Data Manipulations with
+/// If the product has more than 16,777,216 elements, the stop is `DomainSize` at the place `at`;
+/// its count is the number of elements, or the greatest `u64` if there are more. Otherwise a stop
+/// is the first fault of the condition, which is evaluated for each element in order, under the
+/// binding extended by the labels of the element. GAMS User's Guide, "Data Manipulations with
 /// Parameters", "Conditional Expressions, Assignments and Equations".
 pub fn domain<F: ExactField>(
     alloc: Global,
@@ -504,11 +511,11 @@ pub fn domain<F: ExactField>(
     }
 }
 
-/// The elements of the product of sets for which a condition, if any, holds, in the order of
+/// The elements of the product of `sets` for which the condition, if any, holds, in the order of
 /// tuples.
 ///
-/// It is `domain` for sets and a condition that are separate, as those of a left side are, and
-/// stops as `domain` does.
+/// The function is `domain` for sets and a condition that the source does not write as one control,
+/// as on the left side of an assignment. It stops as `domain` does.
 pub fn domain_over<F: ExactField>(
     alloc: Global,
     store: &Store<F>,

@@ -14,10 +14,10 @@ use gq_extended::Ext;
 use gq_field::ExactField;
 use std::alloc::Global;
 
-/// The value of a function at the values of its arguments.
+/// The value of a function of these arguments. The stop is the fault of an operation, at `at`.
 ///
-/// With another number of arguments than the function takes the value is 0, as for a function that
-/// the language leaves out.
+/// With a wrong number of arguments the value is 0, as that of a function that the language leaves
+/// out.
 #[inline(never)]
 pub(crate) fn called<F: ExactField>(
     alloc: Global,

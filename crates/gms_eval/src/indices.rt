@@ -1,4 +1,5 @@
-//! The labels of indices: the place of a set's label in the set, and the label that a lag reaches.
+//! The labels of indices: the position of a set's label in the set, and the label that a lag
+//! reaches.
 ghost use Rattle.std.specs.Prelude.{◌≡◌, ◌<◌, ◌^◌, ◌∷◌, [], map, pos, ◌+ℤ◌, length, nat_abs, slice_get, slice_index, Some, IsTrue, IfOk, IfSome};
 ghost use Rattle.std.specs.Int.{int_rem_euclid};
 ghost use Rattle.gq_extended.specs.Meaning.{extended};
@@ -19,7 +20,7 @@ use gq_extended::Ext;
 use gq_field::ExactField;
 use std::alloc::{AllocError, Global};
 
-/// The label at a place of a set of one dimension.
+/// The label of the member at the index `place` of a one-dimensional set.
 pub(crate) fn label_at(members: &TupleSet, place: usize) -> u32
     requires { place < length members.now }
     ensures { result ≡ slice_index (map label_of_element members.now) place }
@@ -69,8 +70,8 @@ fn place_in(alloc: Global, members: &TupleSet, label: u32) -> Result<Option<usiz
     }
 }
 
-/// The place of a set's label in the set, from 1; 0 if the set has no label, or one that is not in
-/// it.
+/// The position of a set's label among the members of the set, from 1; 0 if the set has no label,
+/// or one that is no member.
 #[inline(never)]
 pub(crate) fn place_in_set<F: ExactField>(
     alloc: Global,
@@ -168,8 +169,9 @@ fn lagged(
     }
 }
 
-/// The label that a lag of this amount reaches from the label of its set. `LagNotWhole` exactly
-/// where the amount is no whole number.
+/// The label that a lag of this amount reaches from the label of its set; `None` beyond the end of
+/// the set, or if the set has no label. The stop is `LagNotWhole` if and only if the amount is no
+/// integer.
 #[inline(never)]
 pub(crate) fn reached<F: ExactField>(
     alloc: Global,
@@ -191,7 +193,7 @@ pub(crate) fn reached<F: ExactField>(
     }
 }
 
-/// A tuple with one more label, if both exist and the tuple has fewer than 10 labels.
+/// A tuple with one more label; `None` if either does not exist or the tuple has 10 labels already.
 #[inline(never)]
 pub(crate) fn with_label(
     alloc: Global,

@@ -1,5 +1,5 @@
-//! The factor of a condition that leads a traversal: a reference whose stored tuples are all at
-//! which the condition may hold.
+//! The factor of a condition that leads a traversal: a reference outside whose stored tuples the
+//! condition cannot hold.
 ghost use Rattle.std.specs.Prelude.{◌≡◌, ◌<◌, ◌≤◌, ◌-◌, ◌*◌, ◌&&◌, ◌||◌, ℕ, Bool, ◌++◌, [], List, length, take, slice_index_or, is_some, true, None, Some, Ok, IfOk, IfSome, IsOk, IsTrue};
 ghost use Rattle.std.specs.List.{All};
 ghost use Rattle.gms_ast.specs.Trees.{Indices};
@@ -24,7 +24,8 @@ use gms_tuple::{MOST_LABELS, Tuple};
 use gq_field::ExactField;
 use std::alloc::{AllocError, Global};
 
-/// The label of an index that is a label, or whose set stands for a label outside.
+/// The label of an index that is a label, or of one without a lag whose set has a label in the
+/// binding around the control.
 fn constant<F: ExactField>(index: &Index<F>, b: &Binding) -> Option<u32>
     ensures label { IfSome result (λ label. (state : State) (more : Pairs) →
         label_answer F.value F.limit state (b.now ++ more) index.now ≡ Ok (Some label)) }
@@ -39,8 +40,8 @@ fn constant<F: ExactField>(index: &Index<F>, b: &Binding) -> Option<u32>
     }
 }
 
-/// The labels with which each tuple of some indices begins: those of the first indices that have
-/// one outside.
+/// The labels with which each tuple of some indices begins: those of the first indices, as long as
+/// these are labels, or sets without a lag that have a label in the binding around the control.
 fn prefix<F: ExactField>(
     alloc: Global,
     indices: &[Index<F>],
@@ -90,8 +91,8 @@ fn place_of<F: ExactField>(indices: &[Index<F>], set: u32) -> Option<usize>
     None
 }
 
-/// The place of the index that has the label of the set at `position` of a control; none where the
-/// set stands for a label outside or occurs before that position too.
+/// The place of the index that has the label of the set at `position` of a control; none if the set
+/// has a label in the binding around the control, or occurs before that position too.
 fn place_at<F: ExactField>(
     indices: &[Index<F>],
     sets: &[u32],
@@ -117,9 +118,9 @@ fn place_at<F: ExactField>(
 /// indices, the others after it.
 #[derive(Drop)]
 struct Cover {
-    /// The place of each label.
+    /// The position of each label.
     places: Vec<usize>,
-    /// The sets whose labels the indices do not have.
+    /// The sets whose labels the indices do not determine.
     free: Vec<u32>,
 }
 
@@ -177,7 +178,8 @@ fn are_plain<F: ExactField>(indices: &[Index<F>]) -> bool
     true
 }
 
-/// The traversal of the tuples of a reference, if it visits fewer than `bound` elements.
+/// The traversal of the stored tuples of a reference; none if it does not visit fewer than `bound`
+/// elements.
 fn traversal_by<F: ExactField>(
     alloc: Global,
     store: &Store<F>,
@@ -218,14 +220,17 @@ fn traversal_by<F: ExactField>(
     }))
 }
 
-/// What is known of a condition.
+/// What a search of a condition has found. The search is for a reference that allows a shorter
+/// loop: a loop over the stored tuples of the reference, in place of one over the product of the
+/// sets of a control.
 #[derive(Drop)]
 pub(crate) struct Scan {
-    /// Whether it never has a fault.
+    /// Whether the shape of the searched condition alone shows that its evaluation has no fault.
     pub safe: bool,
-    /// How many elements another traversal visits at most to be shorter than this one.
+    /// A number of elements: a traversal that is found later is taken only if it visits fewer.
     pub bound: usize,
-    /// The traversal that leads, if any.
+    /// The shortest traversal of the stored tuples of a reference that was found; `None` if none
+    /// was found that visits fewer elements than `bound`.
     pub traversal: Option<Traversal>,
 }
 
@@ -417,8 +422,9 @@ fn scan_guards<F: ExactField>(
     Ok(first)
 }
 
-/// The elements at which a condition is to be tested, for those of the product of sets at which it
-/// holds: all of the product, which are `size`, or those that a leading traversal visits.
+/// Elements of the product of sets among which are all at which the condition holds: all of the
+/// product, which are `size`, or those that the shortest traversal by a leading reference visits. A
+/// test of the condition at these elements finds the same elements, or the same first fault.
 #[inline(never)]
 pub(crate) fn candidates<F: ExactField>(
     alloc: Global,

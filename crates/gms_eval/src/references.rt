@@ -1,4 +1,4 @@
-//! What a reference reads.
+//! The value of a reference.
 ghost use Rattle.std.specs.Prelude.{◌≡◌, option_map};
 ghost use Rattle.gq_extended.specs.Meaning.{extended};
 ghost use Rattle.gms_store.specs.State.{symbol_of};
@@ -72,7 +72,7 @@ fn entry_at<F: ExactField>(
     }
 }
 
-/// What a reference reads; without a tuple of its indices, 0.
+/// The value of a reference by its suffix at the tuple of its indices; 0 if they have none.
 #[inline(never)]
 pub(crate) fn entry_of<F: ExactField>(
     alloc: Global,

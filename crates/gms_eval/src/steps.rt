@@ -1,4 +1,4 @@
-//! The steps by which values are joined: those of chains, of counts and of folds.
+//! The operations by which values are joined: those of chains, of counts and of folds.
 ghost use Rattle.std.specs.Prelude.{◌≡◌, ◌||◌, not, true, option_map, if◌then◌else◌};
 ghost use Rattle.gq_extended.specs.Meaning.{extended, outcome};
 ghost use Rattle.gms_ast.specs.Trees.{signed, placed, related, chosen, plain};
@@ -29,7 +29,7 @@ fn one<F: ExactField>() -> Ext<F>
     Ext::Number(F::one())
 }
 
-/// 1 for what holds and 0 for what does not.
+/// 1 for true and 0 for false.
 pub(crate) fn truth<F: ExactField>(holds: bool) -> Ext<F>
     ensures { extended F.value result ≡ truth holds }
 {
@@ -60,13 +60,13 @@ fn holds_between<F: ExactField>(op: RelOp, x: Ext<F>, y: Ext<F>) -> bool
     }
 }
 
-/// A chain of parts with signs. GAMS User's Guide, "Data Manipulations with Parameters", arithmetic
-/// operations.
+/// Whether a chain of operands is a sum or a product. GAMS User's Guide, "Data Manipulations with
+/// Parameters", arithmetic operations.
 #[derive(Clone, Copy)]
 pub enum Signed {
-    /// A sum: a part is added or subtracted.
+    /// A sum: an operand is added or subtracted.
     Sum,
-    /// A product: a part is multiplied by, or divides.
+    /// A product: an operand multiplies or divides.
     Product,
 }
 
@@ -87,7 +87,8 @@ fn signed_outcome<F: ExactField>(
     }
 }
 
-/// The value so far joined with the next part of a sum or a product, which gives the first value.
+/// The value so far of a sum or a product joined with the operand `y`, which is subtracted or
+/// divides if `inverse`. Without a value so far, `y` itself.
 #[inline(never)]
 pub(crate) fn signed_part<F: ExactField>(
     alloc: Global,
@@ -107,7 +108,7 @@ pub(crate) fn signed_part<F: ExactField>(
     }
 }
 
-/// The value so far raised to the next part of a power, which gives the first value.
+/// The value so far of a power raised to `y`. Without a value so far, `y` itself.
 #[inline(never)]
 pub(crate) fn power_part<F: ExactField>(
     alloc: Global,
@@ -125,8 +126,7 @@ pub(crate) fn power_part<F: ExactField>(
     }
 }
 
-/// 1 or 0: whether a relation holds between the value so far and the next part, which gives the
-/// first value.
+/// 1 if the value so far has the relation to `y`, otherwise 0. Without a value so far, `y` itself.
 #[inline(never)]
 pub(crate) fn related_part<F: ExactField>(op: RelOp, so_far: Option<Ext<F>>, y: Ext<F>) -> Ext<F>
     ensures { after relation_step (related op) (option_map (extended F.value) so_far) (extended F.value y) ≡ Ok (extended F.value result) }
@@ -137,7 +137,7 @@ pub(crate) fn related_part<F: ExactField>(op: RelOp, so_far: Option<Ext<F>>, y: 
     }
 }
 
-/// Whether `and` does not evaluate its right operand: if the left is 0.
+/// Whether `and` does not evaluate its right operand: there is a value so far, and it is 0.
 pub(crate) fn is_left_by_and<F: ExactField>(so_far: Option<Ext<F>>) -> bool
     ensures { result ≡ is_left_by_and (option_map (extended F.value) so_far) }
 {
@@ -147,8 +147,7 @@ pub(crate) fn is_left_by_and<F: ExactField>(so_far: Option<Ext<F>>) -> bool
     }
 }
 
-/// 1 or 0: whether the value so far and the next part both hold. The first part gives the first
-/// value.
+/// 1 if the value so far and `y` both hold, otherwise 0. Without a value so far, `y` itself.
 #[inline(never)]
 pub(crate) fn all_part<F: ExactField>(so_far: Option<Ext<F>>, y: Ext<F>) -> Ext<F>
     ensures { after all_step plain (option_map (extended F.value) so_far) (extended F.value y) ≡ Ok (extended F.value result) }
@@ -159,7 +158,8 @@ pub(crate) fn all_part<F: ExactField>(so_far: Option<Ext<F>>, y: Ext<F>) -> Ext<
     }
 }
 
-/// Whether `or` does not evaluate its right operand: if the left is not 0. `xor` evaluates both.
+/// Whether `or` does not evaluate its right operand: there is a value so far, and it is not 0.
+/// `xor` (`exclusive`) evaluates both operands.
 pub(crate) fn is_left_by_or<F: ExactField>(exclusive: bool, so_far: Option<Ext<F>>) -> bool
     ensures { result ≡ is_left_by_or exclusive (option_map (extended F.value) so_far) }
 {
@@ -169,8 +169,8 @@ pub(crate) fn is_left_by_or<F: ExactField>(exclusive: bool, so_far: Option<Ext<F
     }
 }
 
-/// 1 or 0: whether the value so far or the next part holds; with `xor`, whether only one of them
-/// does. The first part gives the first value.
+/// 1 if the value so far or `y` holds, or with `xor` (`exclusive`) exactly one of them, otherwise
+/// 0. Without a value so far, `y` itself.
 #[inline(never)]
 pub(crate) fn one_part<F: ExactField>(exclusive: bool, so_far: Option<Ext<F>>, y: Ext<F>) -> Ext<F>
     ensures { after one_step (chosen exclusive) (option_map (extended F.value) so_far) (extended F.value y) ≡ Ok (extended F.value result) }
@@ -192,7 +192,7 @@ fn one_of_two<F: ExactField>(exclusive: bool, x: bool, y: bool) -> Ext<F>
     }
 }
 
-/// A count, if it fits.
+/// A count as a value. The stop is `Limit` at `at` if it does not fit under the field's limit.
 #[inline(never)]
 pub(crate) fn counted<F: ExactField>(
     alloc: Global,
@@ -208,7 +208,7 @@ pub(crate) fn counted<F: ExactField>(
     }
 }
 
-/// The initial value of a fold; minimum and maximum have none.
+/// The initial value of a fold; `smin` and `smax` have none.
 pub(crate) fn start<F: ExactField>(op: FoldOp) -> Option<Ext<F>>
     ensures { option_map (extended F.value) result ≡ start_of op }
 {
@@ -220,7 +220,8 @@ pub(crate) fn start<F: ExactField>(op: FoldOp) -> Option<Ext<F>>
     }
 }
 
-/// The value so far joined with that of the next body of a fold, which gives the first value.
+/// The value so far of a fold joined with `y`, the value of its next body. Without a value so far,
+/// `y` itself.
 #[inline(never)]
 pub(crate) fn fold_part<F: ExactField>(
     alloc: Global,

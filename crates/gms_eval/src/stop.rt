@@ -14,10 +14,11 @@ use gq_field::ExactField;
 use std::alloc::{AllocError, AllocFailed, Global};
 use thiserror::Error;
 
-/// Why an execution stops. GAMS User's Guide, "GAMS Output", execution errors.
+/// Why an execution stops: the kind of an execution error. GAMS User's Guide, "GAMS Output",
+/// execution errors.
 #[derive(Clone, Copy, Debug, Error)]
 pub enum StopKind {
-    /// A number exceeds the field's limit.
+    /// A number does not fit under the field's limit.
     #[error("beyond the field's limit")]
     Limit,
     /// A division by 0, or 0 to a negative power.
@@ -47,13 +48,13 @@ pub enum StopKind {
     /// An `abort` statement.
     #[error("stopped by an `abort` statement")]
     Aborted,
-    /// An undefined step, such as an infinity minus itself.
+    /// An undefined operation, such as an infinity minus itself.
     #[error("an undefined step")]
     Undefined,
 }
 
 impl StopKind {
-    /// The number of the kind.
+    /// The number of this kind of stop, which a listing shows.
     pub fn code(self) -> u8
         ensures { result ≡ stop_code self }
     {
@@ -72,7 +73,7 @@ impl StopKind {
         }
     }
 
-    /// The name of the kind.
+    /// The name of this kind of stop, which a listing shows.
     pub fn name(self) -> &'static str
         ensures { result.now ≡ stop_name self }
     {
@@ -104,23 +105,25 @@ impl StopKind {
     }
 }
 
-/// A stop: its kind and its place, and what is known of the step there.
+/// A stop of an execution: its kind, its place in the source, and the labels and operands of the
+/// operation there.
 #[derive(Debug, Error)]
 #[error("{at}: {code} {name}: {kind}", code = .kind.code(), name = .kind.name())]
 pub struct ExecStop<F> {
     /// Why the execution stops.
     pub kind: StopKind,
-    /// The place of the step: one of two operands at the right one, another at its own first
-    /// character.
+    /// The place of the operation in the source: the place of its right operand if it has two
+    /// operands, otherwise the place of its first character.
     pub at: Place,
-    /// The labels under which the step is taken.
+    /// The controlled sets at the operation, each with its label, outermost first.
     pub binding: Binding,
-    /// The left operand of the step, or the amount of a lag; 0 if there is none.
+    /// The left operand of the operation that stops, or the amount of the lag if a lag stops; 0 if
+    /// there is neither.
     pub left: Ext<F>,
-    /// The right operand of the step; 0 if there is none.
+    /// The right operand of the operation that stops; 0 if there is none.
     pub right: Ext<F>,
-    /// How many elements, rows or columns there are, if they are too many, or the greatest `u64` if
-    /// they are more; 0 for the other kinds.
+    /// The number of elements, rows or columns if the stop is because they are too many, or the
+    /// greatest `u64` if there are more; 0 for the other kinds of stop.
     pub count: u64,
 }
 
@@ -138,7 +141,7 @@ impl<F: Drop> Drop for ExecStop<F> {
     }
 }
 
-/// A stop, or out of memory.
+/// Why an execution ends early: a stop, or out of memory.
 #[derive(Debug, Drop, Error)]
 pub enum ExecStopOrMemory<F> {
     /// Out of memory.
@@ -196,7 +199,9 @@ impl<F: ExactField> ExecStopOrMemory<F> {
         }
     }
 
-    /// The stop of a step.
+    /// The stop of this kind at an operation on the operands `left` and `right`, at the place `at`,
+    /// under the binding `b`; `Memory` if there is no memory for the stop. The count of the stop is
+    /// 0.
     #[inline(never)]
     pub fn at_step(
         alloc: Global,
@@ -211,7 +216,9 @@ impl<F: ExactField> ExecStopOrMemory<F> {
         ExecStopOrMemory::made(alloc, kind, at, left, right, 0, b)
     }
 
-    /// The stop of a domain, or of a linear program, that has `count` elements, rows or columns.
+    /// The stop of this kind because there are `count` elements of a domain, or rows or columns of
+    /// a linear program, at the place `at`, under the binding `b`; `Memory` if there is no memory
+    /// for the stop. The operands of the stop are 0.
     #[inline(never)]
     pub fn counted(
         alloc: Global,
@@ -225,7 +232,8 @@ impl<F: ExactField> ExecStopOrMemory<F> {
         ExecStopOrMemory::made(alloc, kind, at, zero(), zero(), count, b)
     }
 
-    /// The stop of a domain whose product has `count` elements.
+    /// The stop `DomainSize` because the product of a domain's sets has `count` elements, at the
+    /// place `at`, under the binding `b`; `Memory` if there is no memory for the stop.
     pub fn too_large(alloc: Global, at: Place, count: u64, b: &Binding) -> ExecStopOrMemory<F>
         ensures { Shows F.value result (record { kind = DomainSize; at = at; binding = b.now; left = nothing; right = nothing; count = count }) }
     {
@@ -233,7 +241,9 @@ impl<F: ExactField> ExecStopOrMemory<F> {
     }
 }
 
-/// The value of a step on two operands, or its stop.
+/// The value in `answer`, the result of an operation on the operands `left` and `right`. If
+/// `answer` is a fault, the error is the stop for this fault, with the operands, at the place `at`
+/// under the binding `b`.
 pub fn taken<F: ExactField>(
     alloc: Global,
     at: Place,

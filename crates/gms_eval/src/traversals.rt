@@ -12,24 +12,30 @@ use gms_tuple::{MOST_LABELS, Tuple, TupleSet};
 use gq_field::ExactField;
 use std::alloc::{AllocError, Global};
 
-/// A traversal of stored tuples of a name. A label of an element is one of the tuple, or one of an
-/// element of the sets that the tuple does not determine.
+/// A traversal of stored tuples of a name, which gives elements of a control. Each label of an
+/// element is taken from the tuple, or from an element of the product of the sets whose labels the
+/// tuple does not determine.
 ///
-/// In `sum((i,j,k)$s(j,i), w(i,k))` it goes over the tuples of `s`; the labels of `i` and `j` are
-/// at the places 1 and 0 of each, and that of `k` is at place 2, after them.
+/// In `sum((i,j,k)$s(j,i), w(i,k))` the traversal goes over the tuples of `s`, each followed by a
+/// label of `k`. The label of `i` is at the index 1, that of `j` at the index 0, and that of `k` at
+/// the index 2.
 #[derive(Drop)]
 pub(crate) struct Traversal {
-    /// The name.
+    /// The number of the name whose tuples are traversed.
     pub name: u32,
-    /// The place of the first of its tuples.
+    /// The index of the first traversed tuple among the stored tuples of the name, from 0.
     pub from: usize,
-    /// The place after the last of them.
+    /// The index after that of the last traversed tuple among the stored tuples of the name, from
+    /// 0.
     pub upto: usize,
-    /// The sets that the tuples do not determine.
+    /// The sets of the control whose labels the tuples do not determine, by the numbers of their
+    /// names, in the order of the control.
     pub free: Vec<u32>,
-    /// How many elements the product of these sets has.
+    /// The number of elements of the product of the sets `free`.
     pub spread: usize,
-    /// The place of each label of an element, in a tuple followed by an element of these sets.
+    /// For each label of an element of the control, in order, the index, from 0, at which the label
+    /// occurs in the list of a traversed tuple's labels followed by a label of each of the sets
+    /// `free`.
     pub places: Vec<usize>,
 }
 
@@ -156,7 +162,7 @@ fn spread<F: ExactField>(
     Ok(more)
 }
 
-/// The elements of the product of sets of one dimension that a traversal visits.
+/// The elements of the product of sets that a traversal visits; each set has one dimension.
 pub(crate) fn gathered<F: ExactField>(
     alloc: Global,
     store: &Store<F>,
@@ -180,7 +186,7 @@ pub(crate) fn gathered<F: ExactField>(
     Ok(found)
 }
 
-/// The members of a set of tuples, in order.
+/// The members of a set of tuples, in order, as a list.
 pub(crate) fn listed(alloc: Global, tuples: &TupleSet) -> Result<Vec<Tuple>, AllocError>
     ensures { IfOk result (λ list. list.items ≡ tuples.now) }
 {

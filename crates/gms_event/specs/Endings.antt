@@ -1,16 +1,17 @@
--- How the end of a solve counts for its model and its solver (GAMS User's Guide, "GAMS Output",
--- model status and solver status).
+-- The status of a model and of a solver after a solve (GAMS User's Guide, "GAMS Output", model
+-- status and solver status).
 use Rattle.std.specs.Prelude.{ℕ, ◌==◌, if◌then◌else◌}
 use Rattle.gms_store.specs.declared.status.SolveStatus.{SolveStatus}
 use Rattle.gms_store.specs.declared.status.SolveStatus.TheVariants as status
 use Rattle.lp_core.specs.declared.answer.End.{End}
 use Rattle.lp_core.specs.declared.answer.End.TheVariants.{Optimal, Infeasible, Unbounded, Interrupted, Refused}
 
--- the status after an interrupt: from the second phase on there is a feasible point
+-- the status of a model after a solve that its limit of pivots interrupts: Intermediate in phase 1,
+-- in which no feasible point is found, and else Feasible
 abbrev pub interrupted : ℕ → SolveStatus
 interrupted phase = if phase == 1 then status.Intermediate else status.Feasible
 
--- the status of an end
+-- the status of a model after a solve with this end
 abbrev pub solve_status : {F : Type 0} → End F → SolveStatus
 solve_status (Optimal levels row_levels duals reduced) = status.Optimal
 solve_status (Unbounded levels row_levels ray) = status.Unbounded

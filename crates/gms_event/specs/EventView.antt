@@ -10,7 +10,7 @@ use Rattle.gms_event.specs.declared.event.Shown.{Shown as OwnShown}
 use Rattle.gms_event.specs.Events.{Event, Shown, displays, solves, aborts, stops}
 
 module _ {F : Type 0} (value : F → Number) where
-  -- the view of an item that is shown
+  -- a shown item, where each value of the field is replaced by the extended number that it means
   abbrev pub shown_in : OwnShown F → Shown
   shown_in item =
       record {
@@ -23,7 +23,7 @@ module _ {F : Type 0} (value : F → Number) where
         decimals = item.decimals;
       }
 
-  -- the view of an event
+  -- an event, where each value of the field is replaced by the number that it means
   abbrev pub event_in : OwnEvent F → Event
   event_in (own.Display line items) = displays line (map shown_in items)
   event_in (own.Solve line model equations lp answer solver settings objective_level) =
@@ -40,6 +40,6 @@ module _ {F : Type 0} (value : F → Number) where
   event_in (own.Abort line items) = aborts line (map shown_in items)
   event_in (own.Fault stop) = stops (fault_of value stop)
 
-  -- the views of events, in order
+  -- events in order, where each value of the field is replaced by the number that it means
   abbrev pub events_in : List (OwnEvent F) → List Event
   events_in events = map event_in events

@@ -13,17 +13,17 @@ use Rattle.lp_core.specs.declared.program.Lp.{Lp}
 pub record Shown : Type 0 where
   -- the text, empty for a symbol
   pub text : List ℕ
-  -- the symbol, by the number of its name
+  -- the symbol, by the number of its name; None for a text
   pub name : Option ℕ
-  -- what the symbol is
+  -- what the symbol is, such as a variable or a parameter
   pub kind : SymbolKind
-  -- which of its values are shown
+  -- the suffix whose values are shown, such as `.l` for levels; None for the plain values
   pub suffix : Suffix
   -- whether the symbol has indices
   pub indexed : Bool
-  -- the tuples with their values; if the symbol has indices, those that are 0 are left out
+  -- the tuples with their values; if the symbol has indices, entries with the value 0 are left out
   pub entries : List (List ℕ × Extended)
-  -- with how many decimals numbers are shown
+  -- the number of decimals with which numbers are shown
   pub decimals : ℕ
 
 -- What a solve shows.
@@ -32,24 +32,26 @@ pub record Solved : Type 0 where
   pub line : ℕ
   -- the model, by the number of its name
   pub model : ℕ
-  -- the equations of the model, in order
+  -- the equations of the model, by the numbers of their names, in order
   pub equations : List ℕ
   -- the linear program
   pub lp : Lp Number
-  -- the place of the answer among those of the run
+  -- the position of the answer among those of the run, from 0
   pub answer : ℕ
   -- the name of the solver
   pub solver : List ℕ
+  -- the settings of the solve, such as its limit of pivots
   pub settings : Settings
   -- the level of the objective after the solve
   pub objective_level : Number
 
 -- What a statement shows, or why the run stops.
 pub data Event : Type 0 where
-  -- a display: the line of its statement, and its items
+  -- a display: the line of its statement, and what is shown for its items
   displays : ℕ → List Shown → Event
+  -- a solve, and what it shows
   solves : Solved → Event
-  -- an abort: the line of its statement, and its items
+  -- an abort: the line of its statement, and what is shown for its items
   aborts : ℕ → List Shown → Event
-  -- the run stops
+  -- the run stops with this fault
   stops : Fault → Event

@@ -5,9 +5,9 @@ ghost use Rattle.gms_event.specs.Endings.{solve_status};
 use gms_store::SolveStatus;
 use lp_core::End;
 
-/// How an end counts: the one status from which the state, `m.modelstat`, `m.solvestat` and the
-/// listing take their numbers and texts. GAMS User's Guide, "GAMS Output", model status and solver
-/// status.
+/// The status of a model `m` after a solve with this end. The state of the run, the values
+/// `m.modelstat` and `m.solvestat`, and the listing take their numbers and texts from this status.
+/// GAMS User's Guide, "GAMS Output", model status and solver status.
 pub fn solve_status<F>(end: &End<F>) -> SolveStatus
     ensures { result ≡ solve_status end.now }
 {

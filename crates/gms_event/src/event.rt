@@ -24,15 +24,15 @@ pub enum Event<F> {
         line: u32,
         /// The model, by the number of its name.
         model: u32,
-        /// The equations of the model, in order.
+        /// The equations of the model, by the numbers of their names, in order.
         equations: Sequence<u32>,
-        /// The linear program that the model means at that point.
+        /// The linear program that the model means at this point of the run.
         lp: Lp<F>,
-        /// The place of the answer among the answers of the run.
+        /// The position of the answer among the answers of the run, from 0.
         answer: usize,
         /// The name of the solver.
         solver: Sequence<u8>,
-        /// The settings at that point.
+        /// The settings at this point of the run.
         settings: Settings,
         /// The level of the objective after the solve.
         objective_level: F,
@@ -44,25 +44,29 @@ pub enum Event<F> {
         /// What it shows, in order.
         items: Sequence<Shown<F>>,
     },
-    /// The run stops.
+    /// The run stops with this fault.
     Fault(Box<ExecStop<F>>),
 }
 
 /// What a `display` or an `abort` shows for one of its items: a text, or the values of a symbol.
 pub struct Shown<F> {
-    /// The text. For a symbol it is empty.
+    /// The text that is shown; empty if a symbol is shown.
     pub text: Sequence<u8>,
-    /// The symbol, by the number of its name; none for a text.
+    /// The number of the name of the symbol that is shown; `None` if a text is shown.
     pub name: Option<u32>,
-    /// What the symbol is; `Undeclared` for a text.
+    /// The kind of the symbol that is shown, such as a variable or a parameter; `Undeclared` if a
+    /// text is shown.
     pub kind: SymbolKind,
-    /// Which of the symbol's values are shown.
+    /// The suffix whose values are shown, such as `.l` for levels; `None` for the plain values, and
+    /// for a text.
     pub suffix: Suffix,
-    /// Whether the symbol has indices. One without them has exactly one entry, also if it is 0.
+    /// Whether the symbol that is shown has indices. A symbol without indices has exactly one
+    /// entry, even if its value is 0.
     pub indexed: bool,
-    /// The entries that are not 0, in the order of tuples.
+    /// The tuples of the symbol that is shown, each with its value, in the order of tuples; empty
+    /// if a text is shown. If the symbol has indices, tuples with the value 0 are left out.
     pub entries: Sequence<(Tuple, Ext<F>)>,
-    /// With how many decimals numbers are shown.
+    /// The number of digits after the decimal point with which values are shown.
     pub decimals: u8,
 }
 

@@ -1,4 +1,4 @@
--- That each solve of a run is answered: the answer is one of its linear program (Chvatal, "Linear
+-- When each solve of a run is answered: its answer is one of its linear program (Chvatal, "Linear
 -- Programming", chapters 2, 3 and 8).
 use Rattle.std.specs.Prelude.{◌≡◌, ℕ, List, slice_get, Some, All}
 use Rattle.gq_number.specs.Number.{Number}
@@ -10,9 +10,9 @@ use Rattle.lp_slot.specs.declared.solver.SolverRule.{SolverRule}
 use Rattle.lp_core.specs.declared.program.Lp.{Lp}
 use Rattle.gms_event.specs.Events.{Solved}
 
--- Solvers give answers by these rules. The answer at the place that a solve names is one of its
--- linear program, with at most the pivots of the settings' limit, under the rule of the solver that
--- the settings choose.
+-- A shown solve is answered: the answer whose index it has in `answers` is one of its linear
+-- program `lp`, under the limit on numbers, with at most `iterlim` pivots, by the rule of the
+-- solver that its settings choose.
 pub record IsSolved {F : Type 0} (value : F → Number) (limit : ℕ) (rules : List SolverRule) (answers : List (Answer F)) (solved : Solved) : Type 0 where
   pub lp : Lp F
   pub shows : lp_numbers value lp ≡ solved.lp
@@ -22,7 +22,7 @@ pub record IsSolved {F : Type 0} (value : F → Number) (limit : ℕ) (rules : L
   pub chosen : slice_get rules solved.settings.solver ≡ Some rule
   pub is_answer : IsAnswerUnder value limit lp solved.settings.iterlim rule answer
 
--- an event that is a solve is answered
+-- if the event is a solve, it is answered; any other event needs no answer
 abbrev pub IsAnswered : {F : Type 0} → (F → Number) → ℕ → List SolverRule → List (Answer F) → Event → Type 0
 IsAnswered value limit rules answers (solves solved) = IsSolved value limit rules answers solved
 IsAnswered value limit rules answers event = Unit {0}

@@ -26,15 +26,16 @@ use Rattle.gms_store.specs.Declarations.{is_set}
 
 -- ---- what the left side controls
 
--- the sets of a left side that no loop controls
+-- the sets among the indices of a left side that have no label in the binding, which has the labels
+-- that the loops around the statement give
 abbrev pub newly_controlled : {N : Type 0} → Pairs → tree.Indices N → List ℕ
 newly_controlled binding indices = filter (λ set. is_none (label_of binding set)) (distinct_numbers (sets_among indices))
 
 -- ---- what an element is given
 
--- whether a name takes a value with a suffix: a lower bound is a number or minus infinity, an upper
--- bound a number or infinity; a level, a marginal and the value that fixes a variable are numbers;
--- a parameter takes any value
+-- whether a name with this suffix can be assigned the value: a lower bound a number or minus
+-- infinity, an upper bound a number or infinity; a level, a marginal and the value that fixes a
+-- variable a number; a parameter any value
 abbrev pub takes_value : Suffix → Extended → Bool
 takes_value suffix.Lo plus_infinity = false
 takes_value suffix.Lo na = false
@@ -48,47 +49,50 @@ takes_value suffix.Fx (number x) = true
 takes_value suffix.Fx x = false
 takes_value other x = true
 
--- the value, if the name takes it; otherwise Undefined at the right side
+-- the value x, if a name with this suffix can be assigned it; otherwise the fault Undefined at the
+-- place of the right side
 abbrev pub where_taken : Suffix → Place → Pairs → Extended → Answer Given
 where_taken suffix right_at binding x =
     if takes_value suffix x then Ok (value_is x) else Err (faulted Undefined right_at binding x nothing)
 
--- what is assigned, as a tree
+-- the left side of an assignment, with its indices as a tree
 abbrev pub target_of : {F : Type 0} → TargetNode F → Target F
 target_of target =
     record { at = target.at; name = target.name; suffix = target.suffix; indices = indices_of (map index_tree target.indices) }
 
 module _ {F : Type 0} (number_of : F → Number) (limit : ℕ) (state : State) where
-  -- what the right side gives under a binding
+  -- what the right side assigns under a binding: to a set whether the element is a member, to any
+  -- other name a value; or the first fault
   abbrev pub given_under : Target F → Place → tree.Tree F → Pairs → Answer Given
   given_under target right_at right binding =
       if is_set (symbol_of state target.name).content then
       membership number_of limit state binding right and_then (λ x. Ok (member x)) else
       value number_of limit state binding right and_then where_taken target.suffix right_at binding
 
-  -- the element of the left side under a binding with what it is given; none where a lag goes past
-  -- the ends of its set
+  -- the tuple of the left side under a binding, with what is assigned to it; None if there is no
+  -- tuple, as a lag goes beyond the end of its set
   abbrev pub element_under : Target F → Place → tree.Tree F → Pairs → Answer (Option (List ℕ × Given))
   element_under target right_at right binding =
       in_order (labels number_of limit state binding target.indices) and_then λ those.
       elim (tuple_of those) [ None ↦ Ok None | Some t ↦ given_under target right_at right binding and_then λ given. Ok (Some (t, given)) ]
 
-  -- the elements that exist
+  -- the elements that exist, each with what is assigned to it
   abbrev pub given_elements : List (Option (List ℕ × Given)) → AllGiven
   given_elements [] = []
   given_elements (None ∷ rest) = given_elements rest
   given_elements (Some given ∷ rest) = given ∷ given_elements rest
 
-  -- the elements that an assignment gives something, in the order of the left side's sets, all in
-  -- the old state; or the first fault: of the left side's domain, and then, for each element, of a
-  -- lag, of the right side, and of what it gives
+  -- the elements with what an assignment assigns to each, in the order of the left side's sets, all
+  -- evaluated in the old state; or the first fault: of the left side's domain, and then, for each
+  -- element, of a lag, of the right side, and of a value that cannot be assigned
   abbrev pub given_by : Place → Pairs → Target F → Option (tree.Tree F) → Place → tree.Tree F → Answer AllGiven
   given_by at binding target condition right_at right =
       let sets = newly_controlled binding target.indices in
       domain number_of limit state binding at (control_over sets condition) and_then λ elements.
       in_order (map (λ element. element_under target right_at right (controlled binding sets element)) elements) and_then λ given. Ok (given_elements given)
 
-  -- the state after an assignment, or its fault
+  -- the state after an assignment in a statement at the place `at`, or the first fault of the
+  -- assignment
   abbrev pub after_assignment : Place → Pairs → Target F → Option (tree.Tree F) → Place → tree.Tree F → Answer State
   after_assignment at binding target condition right_at right =
       given_by at binding target condition right_at right and_then λ given. Ok (after_given target.suffix target.name given state)

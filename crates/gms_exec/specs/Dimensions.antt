@@ -1,6 +1,6 @@
--- Programs whose definitions are over labels and sets of one dimension, as those of an accepted
--- program are (GAMS User's Guide, "Equations", "Set Definition"). Statements preserve this: they
--- change the members of a set, and not how it is declared.
+-- Programs whose definitions have labels and one-dimensional sets as indices, as those of an
+-- accepted program do (GAMS User's Guide, "Equations", "Set Definition"). Statements preserve this:
+-- they change the members of a set, and not its domain.
 use Rattle.std.specs.Prelude.{◌≡◌, List, All, length}
 use Rattle.gms_ast.specs.declared.program.Stmt.{Stmt}
 use Rattle.gms_ast.specs.Trees as tree
@@ -8,15 +8,15 @@ use Rattle.gms_store.specs.State.{State, symbol_of}
 use Rattle.gms_rows.specs.Rows.{Definition, definitions}
 use Rattle.gms_rows.specs.Plain.{HasPlainDefinitions}
 
--- the sets among indices are declared over one position
+-- each set among the indices, with or without a lag, is declared with one dimension
 abbrev pub AreOverOne : {F : Type 0} → State → tree.Indices F → Type 0
 AreOverOne state tree.no_index = Unit {0}
 AreOverOne state (tree.label label rest) = AreOverOne state rest
 AreOverOne state (tree.set set rest) = (length (symbol_of state set).domain ≡ 1) × AreOverOne state rest
 AreOverOne state (tree.lagged set op at amount rest) = (length (symbol_of state set).domain ≡ 1) × AreOverOne state rest
 
--- The definitions of a program have plain indices, and the sets among these are declared over one
--- position.
+-- The indices of each definition are labels and sets without lags, and each of these sets is
+-- declared with one dimension.
 pub record AreOneDimensional {F : Type 0} (state : State) (statements : List (Stmt F)) : Type 0 where
   pub plain : HasPlainDefinitions state statements
   pub declared : All (λ (d : Definition F). AreOverOne state d.indices) (definitions statements)

@@ -1,4 +1,4 @@
--- The contract of `step` in records: what a statement requires of a run, and what it leaves.
+-- The contract of `step` in records: what a statement requires of a run, and what holds after it.
 use Rattle.std.specs.Prelude.{ℕ, List, length, map}
 use Rattle.gq_number.specs.Number.{Number}
 use Rattle.gq_frac.specs.declared.frac.Frac.{Frac}
@@ -11,18 +11,19 @@ use Rattle.gms_exec.specs.Dimensions.{AreOneDimensional}
 use Rattle.gms_exec.specs.ValidEvents.{ShowsValidEvents}
 use Rattle.gms_exec.specs.Stepping.{RunView, Answered, AreValidSettings}
 
--- the view of a run
+-- the view of a run in progress: its state, its events and the answers of its solves
 abbrev pub run_view : Progress → RunView Frac
 run_view run = record { state = run.store; events = run.events.items; answers = run.answers.items }
 
--- Statements can be executed with n solvers in a state: its settings are within their ranges, and
--- definitions are over sets of one dimension.
+-- Statements can be executed with n solvers in a state: the settings of the state are valid, and
+-- the indices of each definition are labels and sets of one dimension without lags.
 pub record CanExecute {F : Type 0} (n : ℕ) (statements : List (Stmt F)) (state : State) : Type 0 where
   pub settings : AreValidSettings n state.settings
   pub plain : AreOneDimensional state statements
 
--- What calls leave from an old point of a run to a new one: the solvers answered each solve that
--- was shown, what was shown is valid, and the statements can still be executed.
+-- What holds after calls that take a run from an old point to a new one: each solve that they
+-- showed is answered by its solver, each event that they showed is valid, and the statements can
+-- still be executed.
 pub record Leaves {S F : Type 0} (value : F → Number) (limit : ℕ) (name : S → List ℕ) (rule : S → SolverRule) (paths : S → List (List Pivot)) (statements : List (Stmt F)) (old_solvers new_solvers : List S) (old new : RunView F) : Type 0 where
   pub answered : Answered value limit name rule paths old_solvers new_solvers old new
   pub valid : ShowsValidEvents value limit (map rule old_solvers) new.answers old.events new.events

@@ -1,6 +1,6 @@
--- What an assignment gives elements, and the state after it (GAMS User's Guide, "Data Manipulations
--- with Parameters", "Variables", "Dynamic Sets"). Each element that is given something has it in
--- place of its old value; all else stays.
+-- What an assignment assigns to elements, and the state after it (GAMS User's Guide, "Data
+-- Manipulations with Parameters", "Variables", "Dynamic Sets"). Each element to which something is
+-- assigned has that in place of its old value; all else stays.
 use Rattle.std.specs.Prelude.{ℕ, pos, Bool, true, false, not, ◌==◌, List, [], ◌∷◌, ◌++◌, length, map, filter, flat_map, reverse, Option, Some, None, unwrap_or, option_map}
 use Rattle.std.specs.List.{list_any}
 use Rattle.std.specs.FinMap as finite
@@ -11,38 +11,38 @@ use Rattle.gms_ast.specs.declared.expression.Suffix.TheVariants as suffix
 use Rattle.gms_tuple.specs.TupleOrder.{tuple_cmp, same_tuple}
 use Rattle.gms_store.specs.State.{State, Entries, Attributes, Content, set_of, parameter_of, variable_of, equation_of, Symbol, symbol_of, with_symbol, with_content, is_given, attributes_in, absent_variable, same_attributes, unbounded, with_lower, with_upper, with_level, with_marginal}
 
--- What an element is given.
+-- What an assignment assigns to an element.
 pub data Given : Type 0 where
   -- whether it is a member of the set
   member : Bool → Given
   -- a value
   value_is : Extended → Given
 
--- elements, each with what it is given
+-- elements, each with what is assigned to it, in the order of the assignment
 abbrev pub AllGiven : Type 0
 AllGiven = List (List ℕ × Given)
 
 -- ---- sets
 
--- an element that is made a member or not, if it is
+-- a list of the element with whether it becomes a member; empty if a value is assigned
 abbrev pub member_given : List ℕ × Given → List (List ℕ × Bool)
 member_given (t, member on) = (t, on) ∷ []
 member_given (t, value_is x) = []
 
--- the elements that are made members or not
+-- the elements with whether each becomes a member
 abbrev pub members_given : AllGiven → List (List ℕ × Bool)
 members_given all = flat_map member_given all
 
--- whether an element is one of those that are made members or not
+-- whether a tuple is one of these elements
 abbrev pub is_given_among : List (List ℕ × Bool) → List ℕ → Bool
 is_given_among given t = list_any (λ one. same_tuple one.0 t) given
 
--- tuples in ascending order, without repetition
+-- the tuples in ascending order, without repetition
 abbrev pub ordered_tuples : List (List ℕ) → List (List ℕ)
 ordered_tuples tuples = finite.keys (finite.from_entries {R = tuple_cmp} (map (λ t. (t, true)) tuples))
 
--- The members of a set of which some elements are made members or not; the others stay as they
--- were. If an element is given twice, which no accepted program does, the later counts.
+-- The members of a set after some elements became members or ceased to be; the other members stay.
+-- If an element occurs twice, which no accepted program does, the later counts.
 abbrev pub with_members : List (List ℕ × Bool) → List (List ℕ) → List (List ℕ)
 with_members given members =
     let last = finite.from_entries {R = tuple_cmp} (reverse given) in
@@ -50,18 +50,18 @@ with_members given members =
 
 -- ---- values
 
--- an element that is given a value, if it is
+-- a list of the element with the value that is assigned to it; empty if membership is assigned
 abbrev pub value_given : List ℕ × Given → List (List ℕ × Extended)
 value_given (t, member on) = []
 value_given (t, value_is x) = (t, x) ∷ []
 
--- the values that elements are given
+-- the elements with the values that are assigned to them
 abbrev pub values_given : AllGiven → List (List ℕ × Extended)
 values_given all = flat_map value_given all
 
--- A map in which some entries are new: each of their tuples has the new entry, and every other
--- tuple its old one. Only entries that differ from an absent one are kept. Of two new entries at
--- one tuple, which no accepted program has, the later counts.
+-- A map with some new entries: each of their tuples has the new value, and every other tuple its
+-- old one. Only values for which `differs` is true are kept. Of two new entries at one tuple, which
+-- no accepted program has, the later counts.
 abbrev pub overlaid_entries : {X : Type 0} → (X → Bool) → List (List ℕ × X) → Entries X → Entries X
 overlaid_entries differs new entries =
     let all = finite.from_entries {R = tuple_cmp} (reverse new ++ finite.entries entries) in
@@ -69,21 +69,23 @@ overlaid_entries differs new entries =
 
 -- ---- variables and equations
 
--- the number that a value is; 0 for any other value, which is given to no bound, level or marginal
+-- the number that a value is; 0 if the value is an infinity or NA, which is assigned to no level
+-- and no marginal
 abbrev pub number_of_value : Extended → Number
 number_of_value (number x) = x
 number_of_value value = whole (pos 0)
 
--- the bound that a value is: an infinite one is none
+-- the bound that a value is; None, an infinite bound, if the value is no number
 abbrev pub bound_of_value : Extended → Option Number
 bound_of_value (number x) = Some x
 bound_of_value value = None
 
--- attributes whose bounds and level are all this number
+-- the attributes with this number as both bounds and as level
 abbrev pub fixed : Number → Attributes → Attributes
 fixed x a = record { lower = Some x; upper = Some x; level = x; marginal = a.marginal }
 
--- the attributes of an element after one of them was given
+-- the attributes of an element with the attributes `a`, after this value was assigned to the
+-- attribute of this suffix
 abbrev pub with_attribute : Suffix → Attributes → Extended → Attributes
 with_attribute suffix.Lo a value = with_lower a (bound_of_value value)
 with_attribute suffix.Up a value = with_upper a (bound_of_value value)
@@ -92,19 +94,20 @@ with_attribute suffix.M a value = with_marginal a (number_of_value value)
 with_attribute suffix.Fx a value = fixed (number_of_value value) a
 with_attribute other a value = a
 
--- the attributes of the elements that are given values, from their old ones
+-- the elements to which values are assigned, each with its attributes afterwards; before, it has
+-- those in `content`
 abbrev pub attributes_given : Suffix → Content → AllGiven → List (List ℕ × Attributes)
 attributes_given suffix content all =
     map (λ given. (given.0, with_attribute suffix (attributes_in content given.0) given.1)) (values_given all)
 
 -- ---- the state
 
--- the values that a parameter is given, which is assigned without a suffix
+-- the elements with the values that are assigned to a parameter; none if there is a suffix
 abbrev pub plain_values : Suffix → AllGiven → List (List ℕ × Extended)
 plain_values suffix.None all = values_given all
 plain_values other all = []
 
--- the content of a name after its elements were given something
+-- the content of a name after an assignment of `all`, with this suffix, to elements of the name
 abbrev pub with_given : Suffix → AllGiven → Content → Content
 with_given suffix all (set_of members) = set_of (with_members (members_given all) members)
 with_given suffix all (parameter_of entries) = parameter_of (overlaid_entries is_given (plain_values suffix all) entries)
@@ -114,13 +117,13 @@ with_given suffix all (equation_of entries) =
     equation_of (overlaid_entries (λ a. not (same_attributes a unbounded)) (attributes_given suffix (equation_of entries) all) entries)
 with_given suffix all content = content
 
--- those elements that have as many labels as a name has positions, which in an accepted program are
--- all
+-- the elements that have as many labels as the name has positions; in an accepted program all
+-- elements do
 abbrev pub fitting : Symbol → AllGiven → AllGiven
 fitting symbol all = filter (λ given. length given.0 == length symbol.domain) all
 
--- the state in which elements of a name have what they are given: one entry of the name is new for
--- each of them, and all else stays
+-- the state after an assignment of `all` to elements of the name, with this suffix: their entries
+-- change, and all else stays
 abbrev pub after_given : Suffix → ℕ → AllGiven → State → State
 after_given suffix name all state =
     let symbol = symbol_of state name in

@@ -11,29 +11,33 @@ use Rattle.gms_eval.specs.Faults.{Answer, ◌and_then◌}
 use Rattle.gms_eval.specs.Holds.{holds}
 use Rattle.gms_eval.specs.Value.{values}
 
--- how the next part of a chain is joined to the result so far
+-- a step that joins the operands of a set expression: from the mark of the next operand, whether
+-- the element is in the result so far, and whether it is in that operand, to whether it is in the
+-- next result
 abbrev pub MembershipJoin : Type 0
 MembershipJoin = Mark → Bool → Bool → Bool
 
--- `+` is in either, `-` in the left and not in the right; before the first part nothing is
+-- the step of a sum: after `+` the next result has what either has; after `-` it has what the
+-- result so far has and the operand has not
 abbrev pub in_sum : MembershipJoin
 in_sum (signed at true) x y = x && not y
 in_sum mark x y = x || y
 
--- `*` is in both; before the first part all is
+-- the step of a product: the next result has what both the result so far and the operand have
 abbrev pub in_product : MembershipJoin
 in_product mark x y = x && y
 
--- parts joined to the result so far, from the left; each is evaluated
+-- the result so far joined with these operands, from the left; or the first fault of an operand
 abbrev pub joined_membership : MembershipJoin → Bool → List (Mark × Answer Bool) → Answer Bool
 joined_membership join so_far [] = Ok so_far
 joined_membership join so_far (part ∷ parts) = part.1 and_then λ x. joined_membership join (join part.0 so_far x) parts
 
 module _ {F : Type 0} (number_of : F → Number) (limit : ℕ) (state : State) (binding : Pairs) where
   abbrev mutual
-    -- Whether the right side is in the set under a binding. `not` and a false guard are not in it,
-    -- and a sign that is not between two parts has no effect. Anything else is a reference to a
-    -- set, or an error of the program.
+    -- Whether the right side of an assignment to a set makes the element of a binding a member, or
+    -- the first fault. An operand under a guard that does not hold is false, and a unary `-` has no
+    -- effect. Any other expression makes the element a member if it holds as a condition; in an
+    -- accepted program it is a reference to a set.
     pub membership : tree.Tree F → Answer Bool
     membership tree.yes = Ok true
     membership tree.no = Ok false
@@ -45,7 +49,7 @@ module _ {F : Type 0} (number_of : F → Number) (limit : ℕ) (state : State) (
         each_holds (unmarked (values number_of limit state binding guards)) and_then λ hold. if hold then membership operand else Ok false
     membership other = holds number_of limit state binding other
 
-    -- the answers of parts, each with its mark
+    -- the answers of the operands of a sum or a product, each with its mark
     pub memberships : tree.Parts F → List (Mark × Answer Bool)
     memberships tree.no_part = []
     memberships (tree.part mark part rest) = (mark, membership part) ∷ memberships rest

@@ -1,4 +1,4 @@
--- That an assignment gives no element twice (GAMS User's Guide, "Data Manipulations with
+-- When an assignment assigns to no element twice (GAMS User's Guide, "Data Manipulations with
 -- Parameters", indexed assignments; "Sets as Sequences: Ordered Sets", lags and leads in
 -- assignments).
 use Rattle.std.specs.Prelude.{◌≡◌, ℕ, Bool, true, false, List}
@@ -10,20 +10,21 @@ use Rattle.gms_store.specs.State.{State}
 use Rattle.gms_eval.specs.Domain.{IsSimple}
 use Rattle.gms_exec.specs.Given.{Given, AllGiven}
 
--- whether an amount of a lag is a number or a scalar, which does not depend on what sets stand for
+-- whether the amount of a lag is a number, or a name without indices and suffix, and so does not
+-- depend on the labels of controlled sets
 abbrev pub is_constant_lag : {F : Type 0} → tree.Tree F → Bool
 is_constant_lag (tree.number n) = true
 is_constant_lag (tree.reference at name suffix.None tree.no_index) = true
 is_constant_lag e = false
 
--- The indices of a left side as they are in an accepted program: each set has one dimension, and
--- the amount of each lag is a number or a scalar.
+-- The indices are those of a left side of an accepted program: each set has one dimension, and the
+-- amount of each lag is a number or a scalar.
 abbrev pub AreLeft : {F : Type 0} → State → tree.Indices F → Type 0
 AreLeft state tree.no_index = Unit {0}
 AreLeft state (tree.label label rest) = AreLeft state rest
 AreLeft state (tree.set set rest) = IsSimple state set × AreLeft state rest
 AreLeft state (tree.lagged set op at amount rest) = IsSimple state set × ((is_constant_lag amount ≡ true) × AreLeft state rest)
 
--- no element is given twice
+-- no element occurs twice among those to which something is assigned
 abbrev pub IsOnce : AllGiven → Type 0
 IsOnce all = IsDistinct (λ (a : List ℕ × Given) (b : List ℕ × Given). same_tuple a.0 b.0) all

@@ -33,13 +33,13 @@ use Rattle.gms_exec.specs.Solved.{after_end}
 
 -- Why a run halts.
 pub data Halt : Type 0 where
-  -- a fault stopped it
+  -- a fault stops the run
   stopped : Fault → Halt
-  -- it waits at a solve for which no answer remains
+  -- no answer remains for a solve
   waiting : Halt
 
--- How far a run has come: the state, what was shown so far, the answers that no solve has taken
--- yet, how many were taken, and why the run has halted, if it has.
+-- How far a run has come: the state, the events shown so far, the answers that remain for its
+-- further solves, how many answers its solves have used, and why the run has halted, if it has.
 pub record Course : Type 0 where
   pub state : State
   pub events : List Event
@@ -47,80 +47,86 @@ pub record Course : Type 0 where
   pub taken : ℕ
   pub halted : Option Halt
 
--- the run in another state
+-- the course with this state
 abbrev pub in_state : Course → State → Course
 in_state course state = record course { state = state }
 
--- the run with one more event
+-- the course with one more event
 abbrev pub with_event : Course → Event → Course
 with_event course event = record course { events = course.events ++ event ∷ [] }
 
--- the run that a fault stops here
+-- the course that this fault halts
 abbrev pub stopped_by : Course → Fault → Course
 stopped_by course fault = record course { halted = Some (stopped fault) }
 
--- a run continues where nothing has halted it
+-- the course after `next`, unless it has halted: then it is unchanged
 abbrev pub while_it_runs : (Course → Course) → Course → Course
 while_it_runs next course = elim course.halted [ None ↦ next course | Some halt ↦ course ]
 
--- a run continues with a value, and is stopped by a fault
+-- the course after `next` with the value of an evaluation, or halted by its fault
 abbrev pub with_evaluated : {A : Type 0} → Evaluated A → (A → Course) → Course → Course
 with_evaluated (Ok x) next course = next x
 with_evaluated (Err fault) next course = stopped_by course fault
 
 -- ---- statements
 
--- What does not change in a run: the program, and the names of the solvers.
+-- What stays the same in a run: the program, and the names of the solvers.
 pub record World (F : Type 0) : Type 0 where
   pub program : Program F
   pub solvers : List (List ℕ)
 
--- how many labels the program has
+-- how many labels the program of a world has
 abbrev pub labels_in : {F : Type 0} → World F → ℕ
 labels_in world = length world.program.labels
 
--- what a statement does to a run, under the labels of the sets that loops control
+-- what a statement makes of a course, where the pairs give a label to each set that the loops
+-- around it control
 abbrev pub OfStatement : Type 0
 OfStatement = Pairs → Course → Course
 
--- what an act does to a run, by the place of its statement
+-- what an act, a statement without its place, makes of a course, where the pairs give a label to
+-- each set that the loops around it control
 abbrev pub OfAct : Type 0
 OfAct = Place → Pairs → Course → Course
 
--- statements in sequence, while nothing stops the run
+-- the course after statements in sequence; once it has halted it is unchanged
 abbrev pub in_sequence : List OfStatement → OfStatement
 in_sequence statements binding course =
     fold (λ course statement. while_it_runs (statement binding) course) course statements
 
--- the body of a loop, once for each element, while nothing stops the run
+-- the course after the body of a loop for each element in sequence, under the binding with the
+-- element; once it has halted it is unchanged
 abbrev pub for_each : List ℕ → List OfStatement → List (List ℕ) → OfStatement
 for_each sets body elements binding course =
     fold (λ course element. in_sequence body (controlled binding sets element) course) course elements
 
 module _ {F : Type 0} (number_of : F → Number) (limit : ℕ) where
-  -- a display shows its items as they are at that point
+  -- the course after a display: its items are shown as they are at that point; `labels` is how many
+  -- labels the program has
   abbrev pub display : ℕ → List Show → OfAct
   display labels items at binding course =
       with_evaluated (all_shown labels course.state binding items) (λ shown. with_event course (displays at.line shown)) course
 
-  -- an abort shows its items and stops the run
+  -- the course after an abort that acts: it shows its items and halts the run
   abbrev pub abort : ℕ → List Show → OfAct
   abort labels items at binding course =
       with_evaluated (all_shown labels course.state binding items)
       (λ shown. stopped_by (with_event course (aborts at.line shown)) (faulted Aborted at binding nothing nothing)) course
 
-  -- an abort acts if it has no condition, or its condition holds
+  -- the course after an abort, which acts if it has no condition or its condition holds
   abbrev pub abort_where : ℕ → Option (tree.Tree F) → List Show → OfAct
   abort_where labels None items at binding course = abort labels items at binding course
   abort_where labels (Some condition) items at binding course =
       with_evaluated (holds number_of limit course.state binding condition) (λ so. if so then abort labels items at binding course else course) course
 
-  -- a loop runs its body for each element that its domain has where it begins
+  -- the course after a loop: its body is executed for each element that its control has at the
+  -- beginning
   abbrev pub over_elements : tree.Control F → List OfStatement → OfAct
   over_elements control body at binding course =
       with_evaluated (domain number_of limit course.state binding at control) (λ elements. for_each (sets_of control) body elements binding course) course
 
-  -- a solve takes the next answer for its linear program; if none remains the run waits
+  -- the course after a solve of this linear program: the next answer is written into the state, and
+  -- the solve is shown; if no answer remains the run halts
   abbrev pub answered : List (List ℕ) → ℕ → List ℕ → ℕ → Place → Course → Lp Number → Course
   answered solvers model equations objective at course lp =
       elim course.left [
@@ -145,13 +151,15 @@ module _ {F : Type 0} (number_of : F → Number) (limit : ℕ) where
             }
       ]
 
-  -- a solve needs a solver; its linear program is the one that the model means at that point
+  -- the course after a solve of the linear program that the model means in the present state; or
+  -- halted by the first fault, which is NoSolver if there is no solver
   abbrev pub solve : List (List ℕ) → List (Stmt F) → ℕ → ℕ → Bool → OfAct
   solve [] statements model objective maximize at binding course = stopped_by course (faulted NoSolver at binding nothing nothing)
   solve (solver ∷ solvers) statements model objective maximize at binding course =
       with_evaluated (program_lp number_of limit course.state statements model objective maximize at) (answered (solver ∷ solvers) model (equations_of statements model) objective at course) course
 
-  -- one act, where the statements of a loop's body are already given by what they do to a run
+  -- the course after an act, where each statement of a loop's body is replaced by what it makes of
+  -- a course
   abbrev pub act_step : World F → Act-F F OfAct OfStatement → OfAct
   act_step world (Act-F.Assign target condition right_at (Value right)) at binding course =
       with_evaluated (after_assignment number_of limit course.state at binding (target_of target) (option_map tree_of condition) right_at (tree_of right)) (in_state course) course
@@ -166,24 +174,24 @@ module _ {F : Type 0} (number_of : F → Number) (limit : ℕ) where
       solve world.solvers world.program.statements.items model.name objective.name maximize at binding course
   act_step world other at binding course = course
 
-  -- a statement with its place
+  -- the course after a statement: that after its act, at its place
   abbrev pub statement_step : Stmt-F F OfAct OfStatement → OfStatement
   statement_step statement binding course = statement.act statement.at binding course
 
-  -- what a statement does to a run
+  -- the course after a statement
   abbrev pub of_statement : World F → Stmt F → OfStatement
   of_statement world = fold-Stmt F OfAct OfStatement (act_step world) statement_step
 
-  -- the run of statements from a state on, with these answers to its solves
+  -- the course of statements that begin in this state, with these answers for their solves
   abbrev pub run_from : World F → State → List (Answer Number) → List (Stmt F) → Course
   run_from world state answers statements =
       in_sequence (map (of_statement world) statements) [] (record { state = state; events = []; left = answers; taken = 0; halted = None })
 
--- the event that a halted run shows last: the fault that stopped it
+-- the event that a halted run shows last: the fault, if one stopped it
 abbrev pub last_event : Option Halt → List Event
 last_event (Some (stopped fault)) = stops fault ∷ []
 last_event halt = []
 
--- what a run shows: its events, and the fault that stopped it
+-- all that a run shows: its events, followed by the fault that stopped it, if any
 abbrev pub all_events : Course → List Event
 all_events course = course.events ++ last_event course.halted

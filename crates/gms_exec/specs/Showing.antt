@@ -1,5 +1,5 @@
 -- What a `display` or an `abort` shows of its items (GAMS User's Guide, "The Display Statement").
--- That the bounds of a variable are shown over all elements of its domain, and how many these may
+-- That it shows the bounds of a variable over all elements of its domain, and how many these may
 -- be, is this project's own rule.
 use Rattle.std.specs.Prelude.{ℕ, pos, min, nat_le, length, Bool, true, not, List, [], ◌∷◌, map, filter, Option, Some, None, Ok, if◌then◌else◌, ◌==◌}
 use Rattle.std.specs.List.{range_with_len}
@@ -21,11 +21,11 @@ use Rattle.gms_eval.specs.Faults.{Answer, nothing, ◌and_then◌}
 use Rattle.gms_eval.specs.References.{plain_value, lower_value, upper_value}
 use Rattle.gms_event.specs.Events.{Shown}
 
--- a status as a value; none is above 127, and each field has all integers up to that
+-- a status as a value; no status is above 127, and integers up to that fit in each field
 abbrev pub status_shown : ℕ → Extended
 status_shown status = number (whole (pos (min status 127)))
 
--- the value of a name at a tuple, by the suffix
+-- the value that is shown of a name with this suffix at a tuple
 abbrev pub value_shown : State → ℕ → Suffix → List ℕ → Extended
 value_shown state name suffix.None t = plain_value state name (symbol_of state name).content t
 value_shown state name suffix.Lo t = lower_value (attributes_of state name t).lower
@@ -42,34 +42,36 @@ is_bound suffix.Lo = true
 is_bound suffix.Up = true
 is_bound other = not true
 
--- the labels that may occur at a position: those of its set, or, without a set, all `labels` labels
--- of the program
+-- the labels that may occur at a position: those of its set, or without a set all labels of the
+-- program, of which there are `labels`
 abbrev pub labels_at : ℕ → State → Option ℕ → List ℕ
 labels_at labels state None = range_with_len 0 labels
 labels_at labels state (Some set) = labels_of state set
 
--- the elements of a domain; an element has at most 10 labels, so a domain with more positions,
--- which no accepted program has, has none
+-- the elements of a domain in a program with `labels` labels. An element has at most 10 labels, so
+-- a domain with more positions, which no accepted program has, has none
 abbrev pub elements_at : ℕ → State → List (Option ℕ) → List (List ℕ)
 elements_at labels state positions = if nat_le (length positions) 10 then tuple_product (map (labels_at labels state) positions) else []
 
--- whether a name has indices
+-- whether a name has positions
 abbrev pub is_indexed : State → ℕ → Bool
 is_indexed state name = not (length (symbol_of state name).domain == 0)
 
--- The tuples at which a name is shown: for a bound all elements of its domain, at most 16,777,216;
--- for a name without indices the empty tuple; otherwise those with data.
+-- The tuples at which a name is shown in a program with `labels` labels: for a bound all elements
+-- of its domain, or the fault DomainSize if these are more than 16,777,216; for a name without
+-- positions the empty tuple; otherwise the tuples with data.
 abbrev pub tuples_looked_at : ℕ → State → Pairs → Named → Suffix → Answer (List (List ℕ))
 tuples_looked_at labels state binding named suffix =
     if is_bound suffix then sized named.at binding (elements_at labels state (symbol_of state named.name).domain) else
     Ok (if is_indexed state named.name then given_of state named.name else [] ∷ [])
 
--- the entries of a name at tuples; if the name has indices, those that are 0 are left out
+-- the values of a name with this suffix at these tuples, in order; if the name has positions, those
+-- that are 0 are left out
 abbrev pub entries_shown : State → ℕ → Suffix → List (List ℕ) → List (List ℕ × Extended)
 entries_shown state name suffix tuples =
     filter (λ entry. if is_indexed state name then is_so entry.1 else true) (map (λ t. (t, value_shown state name suffix t)) tuples)
 
--- what is shown for an item, or the fault of a domain that is too large
+-- what is shown of an item in a program with `labels` labels, or the fault DomainSize
 abbrev pub shown_of : ℕ → State → Pairs → Show → Answer Shown
 shown_of labels state binding (show.Text word) =
     Ok (record { text = word.text; name = None; kind = Undeclared; suffix = suffix.None; indexed = not true; entries = []; decimals = state.settings.decimals })
@@ -84,6 +86,6 @@ shown_of labels state binding (show.Symbol named suffix) =
       decimals = state.settings.decimals;
     })
 
--- what is shown for items, in order, or the first fault
+-- what is shown of the items, in order, in a program with `labels` labels; or the first fault
 abbrev pub all_shown : ℕ → State → Pairs → List Show → Answer (List Shown)
 all_shown labels state binding items = in_order (map (shown_of labels state binding) items)

@@ -1,6 +1,6 @@
 -- The state after a solve was answered (GAMS User's Guide, "Model and Solve Statements", model and
--- solver status, levels and marginals). Which answers leave levels and marginals as they were is
--- this project's own rule.
+-- solver status, levels and marginals). Which answers do not change levels and marginals is this
+-- project's own rule.
 use Rattle.std.specs.Prelude.{ℕ, pos, ◌==◌, if◌then◌else◌, List, [], ◌∷◌, ◌++◌, map}
 use Rattle.std.specs.List.{fold}
 use Rattle.gq_number.specs.Number.{Number, whole}
@@ -14,42 +14,42 @@ use Rattle.lp_core.specs.declared.answer.End.{End}
 use Rattle.lp_core.specs.declared.answer.End.TheVariants.{Optimal, Infeasible, Unbounded, Interrupted, Refused}
 use Rattle.lp_form.specs.declared.key.Key.{Key}
 
--- the status of the model, and that of its solver, after an end
+-- the number of the model status and that of the solver status after a solve with this end
 abbrev pub statuses_of : {F : Type 0} → End F → ℕ × ℕ
 statuses_of end = (model_number (solve_status end), solver_number (solve_status end))
 
--- the first of some numbers; 0 if there are none
+-- the first number of a list; 0 if it is empty
 abbrev pub first_or_zero : List Number → Number
 first_or_zero [] = whole (pos 0)
 first_or_zero (x ∷ xs) = x
 
--- the numbers after the first
+-- the list without its first number
 abbrev pub after_first : List Number → List Number
 after_first [] = []
 after_first (x ∷ xs) = xs
 
--- An element with its level and its marginal.
+-- An element of a variable or an equation with its new level and marginal.
 pub record Point : Type 0 where
   pub key : Key
   pub level : Number
   pub marginal : Number
 
--- elements with their levels and marginals, in order; a missing marginal is 0
+-- the elements with their levels and marginals, in order; a missing level or marginal is 0
 abbrev pub points : List Key → List Number → List Number → List Point
 points [] levels marginals = []
 points (key ∷ keys) levels marginals =
     record { key = key; level = first_or_zero levels; marginal = first_or_zero marginals } ∷ points keys (after_first levels) (after_first marginals)
 
--- the elements of the columns
+-- the elements of the columns, in order
 abbrev pub keys_of_columns : Lp Number → List Key
 keys_of_columns lp = map (λ (column : Column Number). column.key) lp.columns
 
--- the elements of the rows
+-- the elements of the rows, in order
 abbrev pub row_keys : Lp Number → List Key
 row_keys lp = map (λ (row : Row Number). row.key) lp.rows
 
--- what an answer writes: levels and marginals of all columns and rows if it is optimal, their
--- levels with marginals 0 if it has a feasible point that is not optimal, and otherwise nothing
+-- what an end writes: levels and marginals of all columns and rows if it is optimal, their levels
+-- with marginals 0 if it has a feasible point that is not optimal, and otherwise nothing
 abbrev pub points_of : Lp Number → End Number → List Point
 points_of lp (Optimal levels row_levels duals reduced) = points (keys_of_columns lp) levels reduced ++ points (row_keys lp) row_levels duals
 points_of lp (Unbounded levels row_levels ray) = points (keys_of_columns lp) levels [] ++ points (row_keys lp) row_levels []
@@ -57,13 +57,13 @@ points_of lp (Interrupted phase levels row_levels) =
     if phase == 2 then points (keys_of_columns lp) levels [] ++ points (row_keys lp) row_levels [] else []
 points_of lp end = []
 
--- the state in which an element has a level and a marginal
+-- the state in which the element has this level and marginal
 abbrev pub with_point : State → Point → State
 with_point state point =
     after_attributes state point.key.symbol point.key.tuple (with_marginal (with_level (attributes_of state point.key.symbol point.key.tuple) point.level) point.marginal)
 
--- the state after an end of a model's linear program: the two statuses and the points are written,
--- and all else stays
+-- the state after a solve of the model whose linear program had this end: the two statuses, levels
+-- and marginals are written, and all else stays
 abbrev pub after_end : State → ℕ → Lp Number → End Number → State
 after_end state model lp end =
     fold with_point (after_statuses state model (statuses_of end).0 (statuses_of end).1) (points_of lp end)

@@ -1,4 +1,4 @@
--- The contract of `step`: how far a statement takes a run, what its solvers did, and what stays
+-- The contract of `step`: what course a statement leads to, what its solvers did, and what stays
 -- (GAMS User's Guide, "GAMS Programs", "Programming Flow Control Features", "Model and Solve
 -- Statements").
 use Rattle.std.specs.Prelude.{◌≡◌, ℕ, ◌<◌, ◌≤◌, ◌==◌, List, [], ◌∷◌, ◌++◌, length, map, slice_get, None, option_map, option_to_list, Result, Ok, Err, if◌then◌else◌}
@@ -18,13 +18,13 @@ use Rattle.lp_core.specs.Numbers.{answer_numbers}
 use Rattle.gms_exec.specs.Answering.{AreAnswered}
 use Rattle.gms_exec.specs.Run.{Course, stopped_by}
 
--- The view of a run: its state, what it showed, and the answers that its solves took.
+-- The view of a run: its state, the events that it showed, and the answers of its solves.
 pub record RunView (F : Type 0) : Type 0 where
   pub state : State
   pub events : List (Event F)
   pub answers : List (Answer F)
 
--- what holds after a call, unless memory ran out
+-- the claim P holds after a call with this result; if memory ran out, nothing is claimed
 abbrev pub UnlessMemory : {F A : Type 0} → Result A (ExecStopOrMemory F) → Type 0 → Type 0
 UnlessMemory (Ok x) P = P
 UnlessMemory (Err Memory) P = Unit {0}
@@ -33,19 +33,21 @@ UnlessMemory (Err (Stop stop)) P = P
 -- ---- the run
 
 module _ {F : Type 0} (value : F → Number) where
-  -- the view of a run as a course, with these answers remaining
+  -- the course of a run with this view, for whose further solves these answers remain
   abbrev pub course_from_view : RunView F → List (Answer Number) → Course
   course_from_view seen left =
       record { state = seen.state; events = events_in value seen.events; left = left; taken = length seen.answers; halted = None }
 
-  -- A run has reached this point; or a stop has stopped it there. Out of memory makes no claim.
+  -- After a call with this result the course is `now`, or, if the result is a stop, `now` halted by
+  -- its fault. Out of memory makes no claim.
   abbrev pub Comes : {A : Type 0} → Result A (ExecStopOrMemory F) → Course → Course → Type 0
   Comes (Ok x) course now = course ≡ now
   Comes (Err Memory) course now = Unit {0}
   Comes (Err (Stop stop)) course now = course ≡ stopped_by now (fault_of value stop)
 
-  -- A call did to a run what statements do. It appended events and answers, and reached the state
-  -- and the end that the statements lead to with these answers, whichever answers follow them.
+  -- A call with this result did to a run what `does` makes of its course. It appended events and
+  -- answers. With these answers, whichever follow them, `does` leads from the old point of the run
+  -- to the new one, halted by the fault if the result is a stop.
   pub record Runs {A : Type 0} (result : Result A (ExecStopOrMemory F)) (does : Course → Course) (old new : RunView F) : Type 0 where
     pub shown : List (Event F)
     pub events : new.events ≡ old.events ++ shown
@@ -55,15 +57,17 @@ module _ {F : Type 0} (value : F → Number) where
 
 -- ---- the solvers
 
--- the pivots of the answers at solves by the solver at a place
+-- for each solve among the events whose solver has the index k, the pivots of its answer in the
+-- list `answers`, in order
 abbrev pub paths_taken : {F : Type 0} → ℕ → List (Answer F) → List (Event F) → List (List Pivot)
 paths_taken {F} k answers [] = []
 paths_taken {F} k answers (event.Solve line model equations lp answer solver settings level ∷ events) =
     (if settings.solver == k then option_to_list (option_map (λ (a : Answer F). a.pivots) (slice_get answers answer)) else []) ++ paths_taken k answers events
 paths_taken {F} k answers (other ∷ events) = paths_taken k answers events
 
--- Solvers after a call: their number, order, names and rules are unchanged, and to the paths of
--- each the pivots of the answers that it gave are appended. Each solve that was shown is answered.
+-- The solvers after a call: their number, order, names and rules are unchanged, and to the paths of
+-- each are appended the pivots of the answers that it gave. Each solve that the call showed is
+-- answered.
 pub record Answered {S F : Type 0} (value : F → Number) (limit : ℕ) (name : S → List ℕ) (rule : S → SolverRule) (paths : S → List (List Pivot)) (old new : List S) (before after : RunView F) : Type 0 where
   pub names : map name new ≡ map name old
   pub rules : map rule new ≡ map rule old
@@ -74,7 +78,7 @@ pub record Answered {S F : Type 0} (value : F → Number) (limit : ℕ) (name : 
 
 -- ---- what stays
 
--- the settings show at most 8 decimals, and choose one of `solvers` solvers, if there are any
+-- The settings have at most 8 decimals, and choose one of `solvers` solvers, if there are any.
 pub record AreValidSettings (solvers : ℕ) (settings : Settings) : Type 0 where
   pub decimals : settings.decimals ≤ 8
   pub chosen : 0 < solvers → settings.solver < solvers

@@ -1,5 +1,5 @@
--- Which events of a call are valid, so that they can be listed: displays of at most 8 decimals, and
--- solves that are answered.
+-- Which events are valid, so that they can be listed: displays with at most 8 decimals, and solves
+-- that are answered.
 use Rattle.std.specs.Prelude.{◌≡◌, ◌≤◌, ℕ, List, ◌++◌, slice_get, Some, All}
 use Rattle.gq_number.specs.Number.{Number}
 use Rattle.gms_store.specs.declared.settings.Settings.{Settings}
@@ -13,8 +13,9 @@ use Rattle.lp_slot.specs.Under.{IsAnswerUnder}
 use Rattle.lp_core.specs.WellFormed.{IsWellFormed}
 
 module _ {F : Type 0} (value : F → Number) (limit : ℕ) (rules : List SolverRule) (answers : List (Answer F)) where
-  -- A solve that was shown has a well-formed program, and the answer at its place is one of it, by
-  -- the rule of the solver that its settings choose.
+  -- A shown solve has a well-formed linear program, and the answer at the index `place` in the list
+  -- of answers is one of this program, by the rule of the solver that the settings of the solve
+  -- choose.
   pub record IsValidSolve (lp : Lp F) (place : ℕ) (settings : Settings) : Type 0 where
     pub formed : IsWellFormed value lp
     pub given : Answer F
@@ -23,14 +24,15 @@ module _ {F : Type 0} (value : F → Number) (limit : ℕ) (rules : List SolverR
     pub chosen : slice_get rules settings.solver ≡ Some rule
     pub is_answer : IsAnswerUnder value limit lp settings.iterlim rule given
 
-  -- An item that was shown has at most 8 decimals, and a solve that was shown is answered.
+  -- each item that a display or an abort shows has at most 8 decimals, and a solve is valid; any
+  -- fault is valid
   abbrev pub IsValidEvent : Event F → Type 0
   IsValidEvent (event.Display line items) = All (λ (item : Shown F). item.decimals ≤ 8) items
   IsValidEvent (event.Abort line items) = All (λ (item : Shown F). item.decimals ≤ 8) items
   IsValidEvent (event.Fault stop) = Unit {0}
   IsValidEvent (event.Solve line model equations lp answer solver settings level) = IsValidSolve lp answer settings
 
-  -- The events that were appended to others are valid.
+  -- The new events are the old ones followed by valid ones.
   pub record ShowsValidEvents (old new : List (Event F)) : Type 0 where
     pub shown : List (Event F)
     pub events : new ≡ old ++ shown

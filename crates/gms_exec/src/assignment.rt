@@ -205,7 +205,7 @@ fn add<F: ExactField>(
 /// An assignment, except for its condition.
 #[derive(Clone, Copy)]
 pub(crate) struct Assignment<'s, F: ExactField> {
-    /// What is assigned.
+    /// The left side.
     pub(crate) target: &'s Target<F>,
     /// The place of the right side.
     pub(crate) right_at: Place,
@@ -314,11 +314,13 @@ impl<'s, F: ExactField> Assignment<'s, F> {
         self.each_given(alloc, store, those, elements, b)
     }
 
-    /// Assigns: every value is computed in the old state, and then all are written.
+    /// Executes the assignment of a statement at the place `at`: every value is computed in the old
+    /// state, and then all are written.
     ///
     /// A stop is the first fault of the left side's domain, or, for each element, of the amounts of
-    /// its lags, of the right side, and `Undefined` for a value that the name does not take. After
-    /// a stop the state is unchanged. GAMS User's Guide, "Data Manipulations with Parameters".
+    /// its lags, of the right side, and `Undefined` for a value that the name cannot be assigned.
+    /// After a stop the state is unchanged. GAMS User's Guide, "Data Manipulations with
+    /// Parameters".
     pub(crate) fn run(
         &self,
         alloc: Global,

@@ -1,4 +1,4 @@
-//! What an assignment gives an element, and how it is written into the state.
+//! What an assignment assigns to an element, and how it is written into the state.
 ghost use Rattle.std.specs.Prelude.{◌≡◌, ◌∷◌, [], option_map, OnOk};
 ghost use Rattle.gq_extended.specs.Meaning.{extended};
 ghost use Rattle.gms_ast.specs.declared.expression.Suffix.TheVariants.{Fx};
@@ -12,7 +12,7 @@ use gq_extended::Ext;
 use gq_field::ExactField;
 use std::alloc::{AllocError, Global};
 
-/// What an assignment gives an element.
+/// What an assignment assigns to an element.
 #[derive(Clone, Copy)]
 pub(crate) enum Given<F> {
     /// Whether it is a member of the set.
@@ -101,7 +101,7 @@ fn put_given<F: ExactField>(
     }
 }
 
-/// Writes what elements are given, in place of their old values.
+/// Writes what is assigned to elements of a name, with this suffix, in place of their old values.
 pub(crate) fn put_all<F: ExactField>(
     alloc: Global,
     store: &mut Store<F>,

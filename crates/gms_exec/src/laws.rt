@@ -1,5 +1,5 @@
-//! Laws of assignments and solves: what is read after one, and that an assignment gives no element
-//! twice.
+//! Laws of assignments and solves: what is read after one, and that an assignment assigns to no
+//! element twice.
 ghost use Rattle.std.specs.Prelude.{◌≡◌, ◌<◌, ℕ, pos, true, List, Option, Some, Ok, All, length, slice_get, unwrap_or};
 ghost use Rattle.gq_number.specs.Number.{Number, whole};
 ghost use Rattle.gq_extended.specs.Extended.{Extended};
@@ -24,10 +24,10 @@ ghost use Rattle.gms_exec.specs.Elements.{AreElements, IsNot, program_elements, 
 
 use gq_field::ExactField;
 
-/// What is read after an assignment, which gives elements of one name values or membership. Each
-/// element has what it was given, or its old value if it was given nothing; each that is given
-/// something has as many labels as the name has positions. Other names and the settings stay as
-/// they were.
+/// What is read after an assignment of values or membership to elements of one name. Let each
+/// element to which something is assigned have as many labels as the name has positions. Then each
+/// element of the name has the value, membership or attribute that was assigned to it, or the old
+/// one if nothing was assigned to it. Other names and the settings stay as they were.
 pub fn assignment_laws()
     ensures values { (state : State) (name : ℕ) (all : AllGiven) (entries : Entries Extended) (t : List ℕ) →
         base_of state name < length state.symbols →
@@ -52,10 +52,10 @@ pub fn assignment_laws()
         (after_given kind name all state).settings ≡ state.settings }
 {}
 
-/// An assignment gives no element twice, if its left side is as in an accepted program: each set
-/// among the indices has one dimension, and each amount of a lag is a number or a scalar. So
-/// nothing that an element is given is lost, and the order in which elements are given has no
-/// effect (GAMS User's Guide, "Data Manipulations with Parameters", indexed assignments).
+/// An assignment assigns to no element twice if its left side is as in an accepted program: each
+/// set among the indices has one dimension, and each amount of a lag is a number or a scalar. So no
+/// assigned value overwrites another, and the order of the elements has no effect (GAMS User's
+/// Guide, "Data Manipulations with Parameters", indexed assignments).
 pub fn once_laws<F: ExactField>()
     ensures { (state : State) (at : Place) (binding : Pairs) (target : Target F) (condition : Option (Tree F)) (right_at : Place)
         (right : Tree F) (given : AllGiven) →
@@ -64,11 +64,13 @@ pub fn once_laws<F: ExactField>()
         IsOnce given }
 {}
 
-/// What is read after a solve whose columns and rows are elements of the state. An optimum gives
-/// the element of a column its level and its reduced cost, that of a row its level and its dual
-/// value; an end with a feasible point that is not optimal gives levels, and marginals 0; any other
-/// end leaves both. The model has the two statuses of the end. All other elements and names stay as
-/// they were, and so do the settings (GAMS User's Guide, "Model and Solve Statements").
+/// What is read after a solve whose columns and rows are elements of the state. After an optimum,
+/// the element of a column has the column's level, and as marginal its reduced cost; the element of
+/// a row has the row's level, and as marginal its dual value. After an end with a feasible point
+/// that is not optimal, these elements have their levels, and marginals 0. After any other end
+/// levels and marginals stay. The model has the two statuses of the end. All other elements and
+/// names stay as they were, and so do the settings (GAMS User's Guide, "Model and Solve
+/// Statements").
 pub fn solve_laws()
     ensures optimal_column { (state : State) (model : ℕ) (lp : Lp Number) (levels row_levels duals reduced : List Number) (j : ℕ) (key : Key) (x d : Number) →
         AreElements state (program_elements lp) →

@@ -24,10 +24,11 @@ fn with_part(subtracts: bool, so_far: bool, part: bool) -> bool
     }
 }
 
-/// Whether the right side of an assignment to a set is in the set, under a binding.
+/// Whether the right side of an assignment to a set makes the element of a binding a member. The
+/// stop is the first fault.
 ///
-/// `+` is in either, `-` in the left and not the right, `*` in both, `not` not in it, and an
-/// operand under a guard that does not hold is not in it. Every part is evaluated, from the left.
+/// `+` is in either operand, `-` in the left and not the right, `*` in both, `not` not in it, and
+/// an operand under a guard that does not hold is false. Every operand is evaluated, from the left.
 /// GAMS User's Guide, "Dynamic Sets".
 #[cycle(membership)]
 pub(crate) fn membership<F: ExactField>(

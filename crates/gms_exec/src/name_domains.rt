@@ -1,4 +1,4 @@
-//! The elements of the domain of a name, by their numbers.
+//! The elements of the domain of a name, by their indices.
 ghost use Rattle.std.specs.Prelude.{◌≡◌, ◌<◌, [], map, length, min, slice_index_or, IfOk};
 ghost use Rattle.gms_store.specs.State.{symbol_of};
 ghost use Rattle.gms_eval.specs.Domain.{most_counted};
@@ -29,8 +29,8 @@ fn label_numbered(labels: u32, number: usize) -> u32
     number as u32
 }
 
-/// The domain of a name: the set of each position, or none where any label of the program may
-/// occur.
+/// The domain of a name: the set of each position, `None` for one that admits any label of the
+/// program, which has `labels` labels.
 #[derive(Clone, Copy)]
 pub(crate) struct NameDomain<'s, F: ExactField> {
     store: &'s Store<F>,
@@ -73,7 +73,7 @@ impl<'s, F: ExactField> NameDomain<'s, F> {
         }
     }
 
-    /// How many elements there are, at most the greatest `u64`.
+    /// How many elements the domain has, or the greatest `u64` if they are more.
     pub(crate) fn count(&self) -> u64
         ensures { result ≡ min (length (elements_at self.now.labels self.now.store.now self.now.positions.now)) most_counted }
     {
@@ -88,7 +88,7 @@ impl<'s, F: ExactField> NameDomain<'s, F> {
         count
     }
 
-    /// The element of a number, where there are `size` elements.
+    /// The element at the index `number` among the `size` elements of the domain.
     pub(crate) fn element(
         &self,
         alloc: Global,

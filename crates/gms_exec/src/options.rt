@@ -60,8 +60,8 @@ fn has_name(solver: &Box<dyn LpSolver>, word: &[u8]) -> bool
     solver.name().as_bytes().eq_ignore_ascii_case(word)
 }
 
-/// The place of the first solver with the name that an option is set to; without one the choice
-/// stays.
+/// The index of the first solver with the name that an option is set to; the old index if none has
+/// it.
 fn chosen<F>(old: u32, setting: &Setting<F>, solvers: &[Box<dyn LpSolver>]) -> u32
     requires { length solvers.now < 2 ^ 32 }
     ensures { result ≡ solver_set (map name solvers.now) old setting.now }

@@ -4,13 +4,13 @@ use gms_store::Store;
 use gq_frac::Frac;
 use lp_core::Answer;
 
-/// How far a run has come.
+/// How far the run of a program has come: its state, answers and events so far.
 pub struct Progress {
-    /// Its state.
+    /// The state that the run has reached: the data of all names, and the settings.
     pub store: Store<Frac>,
-    /// The answers that its solves took, in order.
+    /// The answers of the solves that the run has executed, in the order of the solves.
     pub answers: Vec<Answer<Frac>>,
-    /// What it showed, in order.
+    /// The events that the run has shown so far, in order.
     pub events: Vec<Event<Frac>>,
 }
 

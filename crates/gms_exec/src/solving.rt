@@ -32,12 +32,12 @@ use lp_form::Key;
 use lp_slot::LpSolver;
 use std::alloc::{AllocError, Global};
 
-/// The parts of a solve statement.
+/// A solve statement.
 #[derive(Clone, Copy)]
 pub(crate) struct Solve {
-    /// The model.
+    /// The number of the model's name.
     pub(crate) model: u32,
-    /// The objective.
+    /// The number of the objective variable's name.
     pub(crate) objective: u32,
     /// Whether the objective is maximized.
     pub(crate) maximize: bool,
@@ -67,7 +67,7 @@ fn put_point<F: ExactField>(
     store.put_marginal(alloc, key.symbol, &key.tuple, marginal)
 }
 
-/// The number at a place; 0 if there is none.
+/// The number at the index `place` of the list; 0 past its end.
 fn number_at<F: ExactField>(numbers: &[F], place: usize) -> F
     ensures { F.value result ≡ slice_index_or (map F.value numbers.now) place (whole (pos 0)) }
 {
@@ -179,7 +179,7 @@ fn solve_one(
     Ok((answer, name))
 }
 
-/// The answer of the solver at a place, and its name.
+/// The answer of the solver at an index of the list, and its name.
 fn solve_at(
     alloc: Global,
     solvers: &mut Vec<Box<dyn LpSolver>>,
@@ -275,10 +275,10 @@ fn solve_program(
     )
 }
 
-/// Solves a model: the chosen solver answers the linear program that it means in the present state,
-/// and the answer is written into the state.
+/// Solves a model: the chosen solver answers the linear program that the model means in the present
+/// state, and the answer is written into the state.
 ///
-/// A stop is `NoSolver` exactly where there is no solver, and otherwise the fault of the linear
+/// A stop is `NoSolver` if and only if there is no solver, and otherwise the fault of the linear
 /// program. GAMS User's Guide, "Model and Solve Statements".
 pub(crate) fn solve_model(
     alloc: Global,

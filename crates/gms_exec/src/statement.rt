@@ -34,16 +34,17 @@ use lp_core::Answer;
 use lp_slot::LpSolver;
 use std::alloc::Global;
 
-/// Executes a statement of a checked program in a run: what it shows is appended to the events, the
-/// answers that it takes to the answers, and the state is the one after it. A loop goes over the
-/// elements that its domain has where it begins. There are fewer than 2^32 solvers.
+/// Executes the statement `s` of a checked program in a run, under the binding `b`. The events that
+/// the statement shows and the answers of its solves are appended to those of the run, and the
+/// state becomes the state after the statement. A loop goes over the elements that its control has
+/// when the loop begins. There must be fewer than 2^32 solvers.
 ///
-/// A stop is the first fault of the statement. What it showed and took before stays, and the state
-/// is the one that it had reached. The kinds are those of its expressions, domains and rows;
-/// `DomainSize` also of a display of bounds; `NoSolver` exactly where a solve is met and there is
-/// no solver; and `Aborted` exactly where an `abort` is met that has no condition or whose
-/// condition holds, and what it shows has no fault. After out of memory the store is not to be used
-/// again. GAMS User's Guide, "GAMS Programs", "Programming Flow Control Features".
+/// A stop is the first fault of the statement. The events and answers before the fault are
+/// appended, and the state is the one that the statement had reached. The kinds of stop are those
+/// of the statement's expressions, domains and rows; `DomainSize` also of a display of bounds;
+/// `NoSolver` at a solve without a solver; and `Aborted` at an `abort` that has no condition or
+/// whose condition holds, and whose items have no fault. After out of memory the store of the run
+/// must not be used again. GAMS User's Guide, "GAMS Programs", "Programming Flow Control Features".
 pub fn step(
     alloc: Global,
     run: &mut Progress,
@@ -279,7 +280,7 @@ fn abort_where<F: ExactField>(
     }
 }
 
-/// The stop of a statement whose cause is no step on values.
+/// The stop of a statement that is no fault of an operation, so without operands, or out of memory.
 pub(crate) fn stopped<F: ExactField>(
     alloc: Global,
     kind: StopKind,

@@ -29,7 +29,7 @@ off : {b : Bool} → (if b then false else true) ≡ true → b ≡ false
 off {b = false} h = refl
 off {b = true} h = cc
 
--- where a parenthesis opens no name stands
+-- where a parenthesis opens there is no name
 pub no_name : (ts : List Seen) → leads productions look_ahead (token LeftParen) ts ≡ true → leads productions look_ahead name ts ≡ false
 no_name ts h = leads_by_kind name ts refl ∙ off (also (is LeftParen) (λ k. if is_terminal_among (Name ∷ Suffix ∷ []) k then false else true) refl _ (sym (leads_by_kind (token LeftParen) ts refl) ∙ h))
 

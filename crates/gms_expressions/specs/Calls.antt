@@ -1,4 +1,4 @@
--- The results of the calls for parts of expressions.
+-- The results of the calls that read expressions and their parts.
 use Rattle.std.specs.Prelude.{◌≡◌, ℕ, false, List, ◌++◌, drop, Some}
 use Rattle.gms_labels.specs.Labels.{place_of}
 use Rattle.gms_lex.specs.declared.token.Token.{Token}
@@ -9,30 +9,33 @@ use Rattle.gms_expressions.specs.declared.fault.SyntaxFaultOrMemory.{SyntaxFault
 use Rattle.gms_expressions.specs.declared.fault.SyntaxFaultOrMemory.TheVariants.{Fault, Memory}
 use Rattle.gms_expressions.specs.Outcomes.{ExpressionState, kinded_tokens, IsPart, IsRefusedPart}
 
--- the state before a part: `unclosed` parentheses are open, and these are the names and the labels
+-- the state before a part of an expression, with `unclosed` open parentheses, these names and these
+-- labels; no dot precedes the part
 abbrev pub expression_state : ℕ → List (List ℕ) → List (List ℕ) → ExpressionState
 expression_state unclosed names labels = record { open_count = unclosed; names = names; labels = labels; dotted = false }
 
--- the tokens of a source from a place on, as the grammar views them
+-- the tokens of a source from the position `at` in their list on, each with its kind
 abbrev pub tokens_from : List ℕ → List Token → ℕ → List (Terminal × Token)
 tokens_from source tokens at = kinded_tokens source (drop at tokens)
 
--- a list begins with another
+-- the second table begins with the first
 abbrev pub IsTablePrefix : List (List ℕ) → List (List ℕ) → Type 0
 IsTablePrefix before after = (more : List (List ℕ)) × (after ≡ before ++ more)
 
--- texts keep their places in a later table
+-- each text that `texts` has is in `later` too, at the same position
 abbrev pub KeepsPlaces : List (List ℕ) → List (List ℕ) → Type 0
 KeepsPlaces texts later = (text : List ℕ) (n : ℕ) → place_of texts text ≡ Some n → place_of later text ≡ Some n
 
--- The longest part was read, and this is what its derivation means, by these names and labels and
--- by any later ones that keep their places.
+-- The longest part that begins the tokens was read, and `part` is what its derivation means by the
+-- names and labels after it, and by any later tables that keep their positions. `Means names labels
+-- tree part` states that `part` is what the derivation `tree` of the nonterminal n means by these
+-- tables.
 pub record IsRead {T : Type 0} (limit : ℕ) (source : List ℕ) (n : Nonterminal) (Means : List (List ℕ) → List (List ℕ) → DerivationTree (Terminal × Token) → T → Type 0) (before after : ExpressionState) (tokens rest : List (Terminal × Token)) (part : T) : Type 0 where
   pub tree : DerivationTree (Terminal × Token)
   pub is_part : IsPart limit source n before after tokens rest tree
   pub means : (names labels : List (List ℕ)) → KeepsPlaces after.names names → KeepsPlaces after.labels labels → Means names labels tree part
 
--- an answer in place of a part: its first fault, or out of memory
+-- the result in place of a part is right: the part's first fault, or out of memory
 abbrev pub IsSyntaxRefusal : ℕ → List ℕ → Nonterminal → ExpressionState → List (Terminal × Token) → SyntaxFaultOrMemory → Type 0
 IsSyntaxRefusal limit source n before tokens (Fault fault) = IsRefusedPart limit source n before tokens fault
 IsSyntaxRefusal limit source n before tokens Memory = Unit {0}

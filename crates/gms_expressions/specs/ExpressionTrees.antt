@@ -27,31 +27,31 @@ use Rattle.gms_expressions.specs.Valuations.{number_meant}
 use Rattle.gms_grammar.specs.Grammar.{DerivationTree, leaf, pair, none, some, more, node, yield}
 use Rattle.gms_grammar.specs.Alternatives.{primary_constant, primary_target, primary_call, primary_fold, primary_expression, index_label, index_set, amount_number, amount_scalar, amount_expression, call_function, call_set, control_set, control_sets}
 
--- a word is this one, letter case ignored
+-- whether a word is the given one, letter case ignored
 abbrev pub is_word : List ℕ → List ℕ → Bool
 is_word text word = str_eq_ignore_ascii_case text word
 
--- the suffix that a word names
+-- the suffix that a word names; `solvestat` for a word that names none of the others
 unfoldable pub suffix_of : List ℕ → Suffix
 suffix_of text =
     if is_word text (codes "lo") then suffix.Lo else (if is_word text (codes "up") then suffix.Up else (if is_word text (codes "l") then suffix.L else (if is_word text (codes "m") then suffix.M else (if is_word text (codes "fx") then suffix.Fx else (if is_word text (codes "modelstat") then suffix.ModelStat else suffix.SolveStat)))))
 
--- the fold that a word names: `sum`, `prod`, `smin` or `smax`
+-- the fold that a word names: `sum`, `prod`, `smin`, or else `smax`
 unfoldable pub fold_op_of : List ℕ → FoldOp
 fold_op_of text =
     if is_word text (codes "sum") then fold_op.Sum else (if is_word text (codes "prod") then fold_op.Prod else (if is_word text (codes "smin") then fold_op.Smin else fold_op.Smax))
 
--- the function that a word names
+-- the function that a word names; NotInProfile for one that this language does not have
 unfoldable pub function_of : List ℕ → Function
 function_of text =
     if is_word text (codes "abs") then function.Abs else (if is_word text (codes "max") then function.Max else (if is_word text (codes "min") then function.Min else (if is_word text (codes "mod") then function.Mod else (if is_word text (codes "sqr") then function.Sqr else (if is_word text (codes "power") then function.Power else (if is_word text (codes "round") then function.Round else (if is_word text (codes "floor") then function.Floor else (if is_word text (codes "ceil") then function.Ceil else (if is_word text (codes "trunc") then function.Trunc else (if is_word text (codes "sign") then function.Sign else function.NotInProfile))))))))))
 
--- the relation that a word names
+-- the relation that a word names; `gt` for a word that names none of the others
 unfoldable pub relation_of_word : List ℕ → RelOp
 relation_of_word text =
     if is_word text (codes "lt") then rel_op.Lt else (if is_word text (codes "le") then rel_op.Le else (if is_word text (codes "eq") then rel_op.Eq else (if is_word text (codes "ne") then rel_op.Ne else (if is_word text (codes "ge") then rel_op.Ge else rel_op.Gt))))
 
--- the relation that a token denotes
+-- the relation that a token denotes, by its kind and its bytes
 abbrev pub relation_of : Kind → List ℕ → RelOp
 relation_of (kind.Symbol sym.Less) text = rel_op.Lt
 relation_of (kind.Symbol sym.LessEq) text = rel_op.Le
@@ -61,145 +61,145 @@ relation_of (kind.Symbol sym.GreaterEq) text = rel_op.Ge
 relation_of (kind.Symbol sym.Greater) text = rel_op.Gt
 relation_of _ text = relation_of_word text
 
--- the lag operator of a token
+-- the lag operator that a token denotes: that of `-`, `++` or `--`, and for any other that of `+`
 abbrev pub lag_op_of : Kind → LagOp
 lag_op_of (kind.Symbol sym.Minus) = lag_op.Lag
 lag_op_of (kind.Symbol sym.PlusPlus) = lag_op.CircularLead
 lag_op_of (kind.Symbol sym.MinusMinus) = lag_op.CircularLag
 lag_op_of _ = lag_op.Lead
 
--- a token is `-`
+-- whether a token is `-`
 abbrev pub is_minus : Kind → Bool
 is_minus (kind.Symbol sym.Minus) = true
 is_minus _ = false
 
--- a token is `/`
+-- whether a token is `/`
 abbrev pub is_slash : Kind → Bool
 is_slash (kind.Symbol sym.Slash) = true
 is_slash _ = false
 
--- a number, or 0
+-- the number, or 0 for None
 abbrev pub or_0 : Option ℕ → ℕ
 or_0 None = 0
 or_0 (Some n) = n
 
--- the default token, for a tree without one
+-- the token that `token_of` gives for a tree that is no leaf; the case does not occur
 abbrev pub no_token : Token
 no_token = record { kind = kind.End; start = 0; end = 0; at = record { line = 0; column = 0 } }
 
--- the token of a leaf
+-- the token of a derivation tree that is a leaf
 abbrev pub token_of : DerivationTree (Terminal × Token) → Token
 token_of (leaf token) = token.1
 token_of _ = no_token
 
--- the kind of the token of a leaf
+-- the terminal of the token of a derivation tree that is a leaf
 abbrev pub terminal_in : DerivationTree (Terminal × Token) → Terminal
 terminal_in (leaf token) = token.0
 terminal_in _ = terminal.End
 
--- the first of two parts
+-- the first of the two derivation trees of a pair
 abbrev pub first_in : {T : Type 0} → DerivationTree T → DerivationTree T
 first_in (pair a b) = a
 first_in _ = none
 
--- the second of two parts
+-- the second of the two derivation trees of a pair
 abbrev pub second_in : {T : Type 0} → DerivationTree T → DerivationTree T
 second_in (pair a b) = b
 second_in _ = none
 
--- what is inside an optional part or a nonterminal
+-- the derivation tree inside that of an optional part or of a nonterminal
 abbrev pub inside : {T : Type 0} → DerivationTree T → DerivationTree T
 inside (some tree) = tree
 inside (node tree) = tree
 inside _ = none
 
--- a tree with `not` before it, if there is one
+-- the syntax tree, negated by `not` if the derivation tree of an optional `not` has one
 abbrev pub negated_by : {N T : Type 0} → DerivationTree T → Syntax N → Syntax N
 negated_by (some word) tree = not_so tree
 negated_by _ tree = tree
 
--- a tree with the sign before it, if any
+-- the syntax tree, negated if the derivation tree of an optional sign has a `-`
 abbrev pub with_sign : {N : Type 0} → DerivationTree (Terminal × Token) → Syntax N → Syntax N
 with_sign (some sign) tree = if is_minus (token_of sign).kind then negated tree else tree
 with_sign _ tree = tree
 
--- a node of parts, or the first part alone
+-- the syntax tree `alone` if there are no further parts, and else what `together` makes of these
 abbrev pub or_alone : {N : Type 0} → Syntax N → (Parts N → Syntax N) → Parts N → Syntax N
 or_alone alone together no_part = alone
 or_alone alone together (part mark tree rest) = together (part mark tree rest)
 
--- the place of the first of the tokens
+-- the place of the first of the tokens; line 0 and column 0 without tokens
 abbrev pub first_place : List (Terminal × Token) → Place
 first_place [] = record { line = 0; column = 0 }
 first_place (token ∷ tokens) = token.1.at
 
--- the place where a tree begins
+-- the place of the first token of a derivation tree
 abbrev pub place_in : DerivationTree (Terminal × Token) → Place
 place_in tree = first_place (yield tree)
 
--- a constant, by its kind, its bytes and its value
+-- the syntax tree of a constant, by its terminal, its bytes, and its value if it is a number
 abbrev pub constant_of : {N : Type 0} → Terminal → List ℕ → N → Syntax N
 constant_of terminal.Infinity text value = plus_infinity
 constant_of terminal.NotAvailable text value = not_available
 constant_of terminal.YesNo text value = if is_word text (codes "yes") then yes else no
 constant_of _ text value = number value
 
--- In a source with these names and labels. Each clause reads as the production of its part; a tree
--- that is none of the part means `no`.
+-- The meaning of derivation trees in a source with these names and labels. Each definition follows
+-- the production of its part; a tree that is none of the part means `no`.
 module _ (source : List ℕ) (names labels : List (List ℕ)) where
-  -- the bytes of the token of a leaf
+  -- the bytes of the token of a derivation tree that is a leaf
   abbrev pub text_in : DerivationTree (Terminal × Token) → List ℕ
   text_in tree = token_text source (token_of tree)
 
-  -- the number of a name
+  -- the number of the name that a leaf has; 0 for a name that the table lacks
   abbrev pub name_in : DerivationTree (Terminal × Token) → ℕ
   name_in tree = or_0 (place_of names (text_in tree))
 
-  -- the number of a quoted label
+  -- the number of the quoted label that a leaf has; 0 for a label that the table lacks
   abbrev pub label_in : DerivationTree (Terminal × Token) → ℕ
   label_in tree = or_0 (place_of labels (unquoted (text_in tree)))
 
-  -- the suffix of a reference: a dot and a word
+  -- the suffix of a reference, by the derivation tree of an optional dot and word
   abbrev pub suffix_in : DerivationTree (Terminal × Token) → Suffix
   suffix_in (some (node (pair _ word))) = suffix_of (text_in word)
   suffix_in _ = suffix.None
 
-  -- the names after the first one in a list
+  -- the numbers of the names after the first one in a list
   abbrev pub following_names : DerivationTree (Terminal × Token) → List ℕ
   following_names (more (pair _ name) others) = name_in name ∷ following_names others
   following_names _ = []
 
-  -- the names of a list
+  -- the numbers of the names in a list
   abbrev pub names_in : DerivationTree (Terminal × Token) → List ℕ
   names_in (node (pair first others)) = name_in first ∷ following_names others
   names_in _ = []
 
-  -- the sets of a control: one, or those in parentheses
+  -- the sets of a fold or loop, by the numbers of their names: one, or those in parentheses
   abbrev pub sets_in : DerivationTree (Terminal × Token) → List ℕ
   sets_in (control_set name) = name_in name ∷ []
   sets_in (control_sets (pair _ (pair list _))) = names_in list
   sets_in _ = []
 
-  -- `ord` or `card` of a set
+  -- the syntax tree of `ord` or `card` of a set
   abbrev pub set_call : DerivationTree (Terminal × Token) → Syntax Number
   set_call (pair word (pair _ (pair name _))) =
       if is_word (text_in word) (codes "ord") then place_in_set (token_of word).at (name_in name) else size_of_set (token_of word).at (name_in name)
   set_call _ = no
 
-  -- a number
+  -- the syntax tree of a number
   abbrev pub number_tree : DerivationTree (Terminal × Token) → Syntax Number
   number_tree tree = number (number_meant (text_in tree))
 
-  -- a constant
+  -- the syntax tree of a constant
   abbrev pub constant_in : DerivationTree (Terminal × Token) → Syntax Number
   constant_in tree = constant_of (terminal_in tree) (text_in tree) (number_meant (text_in tree))
 
-  -- a name alone, as a reference to a scalar
+  -- the syntax tree of a name alone: a reference to a scalar
   abbrev pub scalar : DerivationTree (Terminal × Token) → Syntax Number
   scalar tree = reference (token_of tree).at (name_in tree) suffix.None no_index
 
   abbrev mutual
-    -- an expression: parts joined by `or` and `xor`
+    -- the syntax tree of an expression: parts joined by `or` and `xor`
     pub expression : DerivationTree (Terminal × Token) → Syntax Number
     expression (node (pair first others)) = or_alone (conjunction first) (λ rest. one_of (part (chosen false) (conjunction first) rest)) (choices others)
     expression _ = no
@@ -208,7 +208,7 @@ module _ (source : List ℕ) (names labels : List (List ℕ)) where
     choices (more (pair word tree) others) = part (chosen (is_word (text_in word) (codes "xor"))) (conjunction tree) (choices others)
     choices _ = no_part
 
-    -- parts joined by `and`
+    -- the syntax tree of parts joined by `and`
     pub conjunction : DerivationTree (Terminal × Token) → Syntax Number
     conjunction (node (pair first others)) = or_alone (negation first) (λ rest. all_of (part plain (negation first) rest)) (conjuncts others)
     conjunction _ = no
@@ -217,12 +217,12 @@ module _ (source : List ℕ) (names labels : List (List ℕ)) where
     conjuncts (more (pair _ tree) others) = part plain (negation tree) (conjuncts others)
     conjuncts _ = no_part
 
-    -- a comparison, perhaps with `not`
+    -- the syntax tree of a comparison, perhaps under `not`
     pub negation : DerivationTree (Terminal × Token) → Syntax Number
     negation (node (pair word tree)) = negated_by word (comparison_tree tree)
     negation _ = no
 
-    -- sums with relations between them
+    -- the syntax tree of a comparison: sums joined by relations
     pub comparison_tree : DerivationTree (Terminal × Token) → Syntax Number
     comparison_tree (node (pair first others)) = or_alone (sum_tree first) (λ rest. relation (part (related rel_op.Eq) (sum_tree first) rest)) (relations others)
     comparison_tree _ = no
@@ -231,7 +231,7 @@ module _ (source : List ℕ) (names labels : List (List ℕ)) where
     relations (more (pair word tree) others) = part (related (relation_of (token_of word).kind (text_in word))) (sum_tree tree) (relations others)
     relations _ = no_part
 
-    -- a sum: the first part perhaps with a sign
+    -- the syntax tree of a sum, whose first part may have a sign
     pub sum_tree : DerivationTree (Terminal × Token) → Syntax Number
     sum_tree (node (pair sign (pair first others))) =
         or_alone (with_sign sign (product_tree first)) (λ rest. sum (part (signed (place_in (pair sign first)) false) (with_sign sign (product_tree first)) rest)) (terms others)
@@ -241,7 +241,8 @@ module _ (source : List ℕ) (names labels : List (List ℕ)) where
     terms (more (pair sign tree) others) = part (signed (place_in tree) (is_minus (token_of sign).kind)) (product_tree tree) (terms others)
     terms _ = no_part
 
-    -- a product: after `*` and `/` a sign belongs to the factor
+    -- the syntax tree of a product: powers joined by `*` and `/`, where each but the first may have
+    -- a sign
     pub product_tree : DerivationTree (Terminal × Token) → Syntax Number
     product_tree (node (pair first others)) = or_alone (power_of first) (λ rest. product (part (signed (place_in first) false) (power_of first) rest)) (factors others)
     product_tree _ = no
@@ -250,12 +251,13 @@ module _ (source : List ℕ) (names labels : List (List ℕ)) where
     factors (more (pair operator tree) others) = part (signed (place_in tree) (is_slash (token_of operator).kind)) (signed_power tree) (factors others)
     factors _ = no_part
 
-    -- a power, perhaps with a sign
+    -- the syntax tree of a power, perhaps with a sign
     pub signed_power : DerivationTree (Terminal × Token) → Syntax Number
     signed_power (pair sign tree) = with_sign sign (power_of tree)
     signed_power _ = no
 
-    -- a power: after `**` a sign belongs to the exponent
+    -- the syntax tree of a power: operands, perhaps under conditions, joined by `**`, where each
+    -- but the first may have a sign
     pub power_of : DerivationTree (Terminal × Token) → Syntax Number
     power_of (node (pair first others)) = or_alone (guarded_of first) (λ rest. power (part (placed (place_in first)) (guarded_of first) rest)) (exponents others)
     power_of _ = no
@@ -264,12 +266,12 @@ module _ (source : List ℕ) (names labels : List (List ℕ)) where
     exponents (more (pair _ tree) others) = part (placed (place_in tree)) (signed_guarded tree) (exponents others)
     exponents _ = no_part
 
-    -- an operand under conditions, perhaps with a sign
+    -- the syntax tree of an operand under conditions, perhaps with a sign
     pub signed_guarded : DerivationTree (Terminal × Token) → Syntax Number
     signed_guarded (pair sign tree) = with_sign sign (guarded_of tree)
     signed_guarded _ = no
 
-    -- an operand under conditions
+    -- the syntax tree of an operand under the conditions that follow it, if any
     pub guarded_of : DerivationTree (Terminal × Token) → Syntax Number
     guarded_of (node (pair operand others)) = or_alone (primary operand) (guarded (primary operand)) (guards others)
     guarded_of _ = no
@@ -278,7 +280,7 @@ module _ (source : List ℕ) (names labels : List (List ℕ)) where
     guards (more tree others) = part plain (condition tree) (guards others)
     guards _ = no_part
 
-    -- what follows a `$`
+    -- the syntax tree of a condition, from the derivation tree of a `$` and the condition after it
     pub condition : DerivationTree (Terminal × Token) → Syntax Number
     condition (node (pair _ tree)) = negated_primary tree
     condition _ = no
@@ -287,7 +289,8 @@ module _ (source : List ℕ) (names labels : List (List ℕ)) where
     negated_primary (pair word tree) = negated_by word (primary tree)
     negated_primary _ = no
 
-    -- an operand: a constant, a reference, a call, a fold, or an expression in parentheses
+    -- the syntax tree of an operand: a constant, a reference, a call, a fold, or an expression in
+    -- parentheses
     pub primary : DerivationTree (Terminal × Token) → Syntax Number
     primary (node (primary_constant tree)) = constant_in tree
     primary (node (primary_target tree)) = target tree
@@ -300,7 +303,7 @@ module _ (source : List ℕ) (names labels : List (List ℕ)) where
     bracketed_expression (pair _ (pair tree _)) = expression tree
     bracketed_expression _ = no
 
-    -- a call of a function, or of `ord` or `card`
+    -- the syntax tree of a call of a function, or of `ord` or `card`
     pub call_of : DerivationTree (Terminal × Token) → Syntax Number
     call_of (node (call_function tree)) = function_call tree
     call_of (node (call_set tree)) = set_call tree
@@ -322,13 +325,13 @@ module _ (source : List ℕ) (names labels : List (List ℕ)) where
     more_arguments (more (pair _ tree) others) = part plain (expression tree) (more_arguments others)
     more_arguments _ = no_part
 
-    -- a fold
+    -- the syntax tree of a fold: `sum`, `prod`, `smin` or `smax` over sets
     pub fold_of : DerivationTree (Terminal × Token) → Syntax Number
     fold_of (node (pair word (pair _ (pair (pair sets (pair _ body)) _)))) =
         fold_over (token_of word).at (fold_op_of (text_in word)) (control sets) (expression body)
     fold_of _ = no
 
-    -- a reference, or what is assigned
+    -- the syntax tree of a reference, or of the left side of an assignment
     pub target : DerivationTree (Terminal × Token) → Syntax Number
     target (node (pair name (pair dotted bracketed))) = reference (token_of name).at (name_in name) (suffix_in dotted) (optional_indices bracketed)
     target _ = no
@@ -345,7 +348,8 @@ module _ (source : List ℕ) (names labels : List (List ℕ)) where
     more_indices (more (pair _ tree) others) = index tree (more_indices others)
     more_indices _ = no_index
 
-    -- an index before others: a label, or a set, perhaps with a lag
+    -- the indices that begin with the one of this derivation tree, a label or a set, perhaps with a
+    -- lag; `rest` follows it
     pub index : DerivationTree (Terminal × Token) → Indices Number → Indices Number
     index (node (index_label text)) rest = label (label_in text) rest
     index (node (index_set (pair name none))) rest = set (name_in name) rest
@@ -362,7 +366,7 @@ module _ (source : List ℕ) (names labels : List (List ℕ)) where
     lag_amount (node (amount_expression tree)) = bracketed_expression tree
     lag_amount _ = no
 
-    -- the sets of a fold or a loop, and the condition
+    -- the sets of a fold or a loop, with the condition if there is one
     pub control : DerivationTree (Terminal × Token) → Control Number
     control (node (pair sets none)) = over (sets_in sets)
     control (node (pair sets (some tree))) = over_where (sets_in sets) (condition tree)

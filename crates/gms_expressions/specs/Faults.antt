@@ -24,7 +24,8 @@ syntax_error_name Number = codes "Number"
 syntax_error_name NotInProfile = codes "NotInProfile"
 syntax_error_name TooManyLabels = codes "TooManyLabels"
 
--- the refusal of a name or a label at a place that was not entered
+-- the result in place of a part if the name or label at this place could not be entered in its
+-- table
 abbrev pub not_entered : LabelFault → Place → SyntaxFaultOrMemory
 not_entered label_fault.Full at = Fault (record { error = TooManyLabels; at = at })
 not_entered label_fault.Memory at = Memory

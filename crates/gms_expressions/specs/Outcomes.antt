@@ -1,4 +1,4 @@
--- What reading a part of an expression answers: the longest part with its tree, or its first fault
+-- The result of reading a part of an expression: the longest part with its tree, or its first fault
 -- (GAMS User's Guide, "GAMS Output", compilation errors).
 use Rattle.std.specs.Prelude.{◌≡◌, ℕ, ◌+◌, ◌-◌, ◌≤◌, Bool, true, not, ◌&&◌, if◌then◌else◌, List, [], ◌∷◌, length, map}
 use Rattle.gms_labels.specs.declared.place.Place.{Place}
@@ -23,7 +23,7 @@ use Rattle.gms_expressions.specs.declared.fault.SyntaxFaultOrMemory.{SyntaxFault
 use Rattle.gms_expressions.specs.declared.fault.SyntaxFaultOrMemory.TheVariants.{Fault}
 use Rattle.gms_expressions.specs.Words.{terminal_of}
 
--- the tokens of a source as the grammar views them
+-- the tokens of a source, each with its terminal of the grammar
 abbrev pub kinded_tokens : List ℕ → List Token → List (Terminal × Token)
 kinded_tokens source tokens = map (λ token. (terminal_of token.kind (token_text source token), token)) tokens
 
@@ -35,11 +35,12 @@ pub record ExpressionState : Type 0 where
   pub labels : List (List ℕ)
   pub dotted : Bool
 
--- a token is a name: no suffix after a dot
+-- whether a token of this kind, in this state, is a name: a `Name` or a `Suffix` that no dot
+-- precedes
 abbrev pub is_name_token : ExpressionState → Terminal → Bool
 is_name_token read_state kind = is_terminal_among (terminal.Name ∷ terminal.Suffix ∷ []) kind && not read_state.dotted
 
--- how many parentheses are open after a token
+-- how many parentheses are open after a token of this kind, if n are open before it
 abbrev pub open_after : ℕ → Terminal → ℕ
 open_after n terminal.LeftParen = n + 1
 open_after n terminal.RightParen = n - 1
@@ -59,17 +60,18 @@ state_after_token source read_state token =
 abbrev pub state_after_tokens : List ℕ → ExpressionState → List (Terminal × Token) → Terminal → ExpressionState
 state_after_tokens source read_state tokens ahead = left_by (λ read_state token ahead. state_after_token source read_state token) read_state tokens ahead
 
--- the place of the next token, or the end of the source
+-- the place of the first of the tokens; that of the source's end without tokens
 abbrev pub next_place : List ℕ → List (Terminal × Token) → Place
 next_place source [] = place_of_byte source (length source)
 next_place source (token ∷ tokens) = token.1.at
 
--- the error of an unexpected token: NotInProfile for a word that the language leaves out
+-- the error of the first of these tokens as unexpected: NotInProfile for a word that the language
+-- leaves out, else Expected
 abbrev pub unexpected_error : List (Terminal × Token) → SyntaxError
 unexpected_error [] = Expected
 unexpected_error (token ∷ tokens) = if is terminal.NotInProfile token.0 then NotInProfile else Expected
 
--- the fault of an unexpected token
+-- the fault of the first of the tokens `rest` as unexpected
 abbrev pub unexpected_token : List ℕ → List (Terminal × Token) → SyntaxFault
 unexpected_token source rest = record { error = unexpected_error rest; at = next_place source rest }
 
@@ -84,7 +86,8 @@ pub data IsFaultyInExpression (limit : ℕ) (source : List ℕ) (read_state : Ex
   many_labels : token.0 ≡ terminal.Text → IsFullFor read_state.labels (unquoted (token_text source token.1)) →
       IsFaultyInExpression limit source read_state token (record { error = TooManyLabels; at = token.1.at })
 
--- the rule of faults in the expressions of a source, by the limit of its numbers
+-- the rule by which expressions are read, for a pair of the limit of numbers and the source: the
+-- state after a token, the faults of a token, and the fault of an unexpected one
 abbrev pub syntax_rule : ℕ × List ℕ → Rule Token ExpressionState SyntaxFault SyntaxFaultOrMemory
 syntax_rule key = record {
   after = λ read_state token ahead. state_after_token key.1 read_state token;
@@ -94,15 +97,17 @@ syntax_rule key = record {
 }
 
 module _ (limit : ℕ) (source : List ℕ) where
-  -- The longest part that begins the tokens, complete and without faulty tokens, and what follows
-  -- it.
+  -- The longest part of the nonterminal n that begins the tokens is complete and has no faulty
+  -- token: `tree` is its tree, `rest` follows it, and the state is `read_state` before it and
+  -- `following` after it.
   pub record IsPart (n : Nonterminal) (read_state following : ExpressionState) (tokens rest : List (Terminal × Token)) (tree : DerivationTree (Terminal × Token)) : Type 0 where
     pub is_tree : IsTree productions (the n) tree
     pub stops : Stops productions (the n) tokens (yield tree) rest
     pub are_sound : AreFaultless (syntax_rule (limit, source)) read_state (yield tree) (kind_of rest)
     pub leaves : following ≡ state_after_tokens source read_state (yield tree) (kind_of rest)
 
-  -- The tokens begin no part, or a faulty one: this is the first fault. If the longest prefix that
-  -- begins a part is not complete, the token after it is unexpected.
+  -- The tokens begin no complete part of the nonterminal n, or one with a faulty token, and this is
+  -- the first fault. If the longest prefix that begins a part is not complete, then the token after
+  -- it is unexpected.
   abbrev pub IsRefusedPart : Nonterminal → ExpressionState → List (Terminal × Token) → SyntaxFault → Type 0
   IsRefusedPart n read_state tokens fault = rules.IsRefusedByRule syntax_rule (limit, source) (λ prefix rest. Derives productions (the n) prefix → ⊥) n read_state tokens fault

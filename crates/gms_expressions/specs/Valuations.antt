@@ -6,7 +6,7 @@ use Rattle.gq_number.specs.Number.{Number}
 use Rattle.gq_text.specs.Numeral.{spelled}
 use Rattle.gq_text.specs.Decimal.{number_of, MeansNumber}
 
--- each text that means a number has that number
+-- for each text that means a number, `value` gives that number
 abbrev pub IsValuation : (List ℕ → Number) → Type 0
 IsValuation value = (text : List ℕ) (x : Number) → MeansNumber text x → value text ≡ x
 
@@ -14,31 +14,32 @@ IsValuation value = (text : List ℕ) (x : Number) → MeansNumber text x → va
 abbrev pub leading_digits : List ℕ → List ℕ
 leading_digits text = take (prefix_len is_ascii_digit text) text
 
--- what follows them
+-- a text without the digits that it begins with
 abbrev pub after_digits : List ℕ → List ℕ
 after_digits text = drop (prefix_len is_ascii_digit text) text
 
--- the digits after a point, if a text begins with one
+-- the digits after the point with which a text begins; none without a point
 abbrev pub point_digits : List ℕ → List ℕ
 point_digits [] = []
 point_digits (b ∷ text) = if b == 46 then leading_digits text else []
 
--- what follows the point and its digits, if there is a point
+-- a text without the point with which it begins and the digits after that; the text without a point
 abbrev pub after_point : List ℕ → List ℕ
 after_point [] = []
 after_point (b ∷ text) = if b == 46 then after_digits text else b ∷ text
 
--- the whole number of digits, with an optional sign before them
+-- the integer that digits spell, with an optional sign before them; 0 for no digits
 abbrev pub signed_digits : List ℕ → ℤ
 signed_digits [] = pos 0
 signed_digits (b ∷ text) = if b == 45 then neg_ℤ (pos (spelled text)) else (if b == 43 then pos (spelled text) else pos (spelled (b ∷ text)))
 
--- the exponent after its mark, and 0 without one
+-- the exponent that a text means: the digits after its first byte, with an optional sign; 0 for the
+-- empty text
 abbrev pub exponent_in : List ℕ → ℤ
 exponent_in [] = pos 0
 exponent_in (mark ∷ text) = signed_digits text
 
--- the number that a text means; the value for a text that means none has no meaning
+-- the number that a text means; for a text that means no number, any number
 unfoldable pub number_meant : List ℕ → Number
 number_meant text =
     number_of (record {

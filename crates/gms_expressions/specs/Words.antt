@@ -8,7 +8,7 @@ use Rattle.gms_grammar.specs.declared.terminal.Terminal.{Terminal}
 use Rattle.gms_grammar.specs.declared.terminal.Terminal.TheVariants.{Suffix, Function, OrdCard, FoldOp, Infinity, NotAvailable, YesNo, Not, And, Or, RelationWord, All, Using, Direction, Reserved, NotInProfile, Name, Sense, Power, DotDot, Relation, Circular, Sign, Star, Slash, Equals, LeftParen, RightParen, Comma, Semicolon, Dot, Dollar, Label, Number, Text, LongText, Break, TableLine, End}
 use Rattle.gms_grammar.specs.Keywords.{Words, statement_words, kind_among}
 
--- the words of expressions
+-- the reserved words of expressions, by their terminals
 abbrev pub expression_words : List Words
 expression_words =
     (Suffix, codes "lo" ∷ codes "up" ∷ codes "l" ∷ codes "m" ∷ codes "fx" ∷ codes "modelstat" ∷ codes "solvestat" ∷ []) ∷
@@ -24,7 +24,8 @@ expression_words =
     (RelationWord, codes "lt" ∷ codes "le" ∷ codes "eq" ∷ codes "ne" ∷ codes "ge" ∷ codes "gt" ∷ []) ∷
     []
 
--- the words of other parts, and those that the language leaves out
+-- the reserved words of other parts of programs, and those that the language leaves out, by their
+-- terminals
 abbrev pub other_words : List Words
 other_words =
     (All, codes "all" ∷ []) ∷
@@ -34,22 +35,22 @@ other_words =
     (NotInProfile, codes "if" ∷ codes "while" ∷ codes "for" ∷ codes "put" ∷ codes "file" ∷ codes "acronym" ∷ codes "eps" ∷ codes "undf" ∷ []) ∷
     []
 
--- a kind, or a name for none
+-- the terminal of a reserved word, or `Name` for None, a word that is not reserved
 abbrev pub or_name : Option Terminal → Terminal
 or_name None = Name
 or_name (Some terminal) = terminal
 
--- a kind, or another for none
+-- the first terminal if it is not None, else the second
 abbrev pub or_else : Option Terminal → Option Terminal → Option Terminal
 or_else None other = other
 or_else (Some terminal) other = Some terminal
 
--- the kind of a word; one that is not reserved is a name
+-- the kind of a word for the grammar; a word that is not reserved is a name
 unfoldable pub terminal_of_word : List ℕ → Terminal
 terminal_of_word word =
     or_name (or_else (kind_among word statement_words) (or_else (kind_among word expression_words) (kind_among word other_words)))
 
--- the kind of a symbol
+-- the terminal of the grammar for a symbol
 abbrev pub terminal_of_symbol : Sym → Terminal
 terminal_of_symbol sym.EqE = Sense
 terminal_of_symbol sym.EqL = Sense
@@ -76,11 +77,12 @@ terminal_of_symbol sym.Semicolon = Semicolon
 terminal_of_symbol sym.Dot = Dot
 terminal_of_symbol sym.Dollar = Dollar
 
--- the kind of a quoted token: it is no label if it has over 63 bytes between its marks
+-- the terminal for a quoted text: `LongText` if it has over 63 bytes between its quotation marks,
+-- which no label has, else `Text`
 abbrev pub terminal_of_text : List ℕ → Terminal
 terminal_of_text text = if nat_lt 65 (length text) then LongText else Text
 
--- the kind of a token with these bytes
+-- the terminal of the grammar for a token of this kind with these bytes
 abbrev pub terminal_of : Kind → List ℕ → Terminal
 terminal_of kind.Word text = terminal_of_word text
 terminal_of kind.Label text = Label

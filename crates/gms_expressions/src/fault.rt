@@ -12,10 +12,10 @@ use thiserror::Error;
 /// A syntax error, by its cause.
 #[derive(Clone, Copy, Debug, Error)]
 pub enum SyntaxError {
-    /// An unexpected token: the tokens before it begin a part, and with it they begin none.
+    /// An unexpected token: the tokens before it begin a part, and with it they do not.
     #[error("unexpected token")]
     Expected,
-    /// A parenthesis that opens where 100 are open.
+    /// A `(` that opens while 100 parentheses are open.
     #[error("over 100 open parentheses")]
     Depth,
     /// A number out of range.
@@ -61,13 +61,13 @@ impl SyntaxError {
 #[derive(Clone, Copy, Debug, Error)]
 #[error("{at}: {code} {name}: {error}", code = .error.code(), name = .error.name())]
 pub struct SyntaxFault {
-    /// The error.
+    /// Which syntax error it is.
     pub error: SyntaxError,
-    /// Where the token is.
+    /// The place of the token with the error, by line and column.
     pub at: Place,
 }
 
-/// A syntax fault, or out of memory.
+/// Why tokens were not read: a syntax error and its place, or out of memory.
 #[derive(Clone, Copy, Debug, Error)]
 pub enum SyntaxFaultOrMemory {
     /// Out of memory.

@@ -1,7 +1,7 @@
 //! Laws of what the clauses of the calls speak of.
 ghost use Rattle.gms_expressions.specs.Valuations.{IsValuation, number_meant};
 
-/// The number that is read off a text is the one that the text means, where it means one.
+/// For each text that means a number, the function `number_meant` gives that number.
 pub fn valuation_laws()
     ensures { IsValuation number_meant }
 {}

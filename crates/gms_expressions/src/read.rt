@@ -63,15 +63,17 @@ impl Tables {
     }
 }
 
-/// The longest expression that begins at a token, and the place of the token after it. The tokens
-/// are those of the source, `from` is the place of one of them, and `unclosed` parentheses are open
-/// before it, at most 100. Whatever the answer, names and labels are only extended: new ones follow
-/// the others.
+/// The longest expression that begins at the token with the index `from`, and the index of the
+/// token after the expression.
 ///
-/// The fault is the first that the tokens have in their order: a token that cannot continue such a
-/// part (`Expected`, or `NotInProfile` for a word that the language leaves out), a parenthesis that
-/// is opened while 100 are open (`Depth`), a number out of range (`Number`), a new name or label
-/// for which the table is full (`TooManyLabels`). `Memory` means out of memory.
+/// `tokens` are those of the source. Before the token at `from` there are `unclosed` open
+/// parentheses, at most 100. `names` and `labels` are the tables of the program: new names and
+/// labels of the expression are appended, and the others stay. On failure some may be appended too.
+///
+/// The fault is the first that the tokens have in their order: a token that cannot continue the
+/// expression (`Expected`, or `NotInProfile` for a word that the language leaves out), a
+/// parenthesis that is opened while 100 are open (`Depth`), a number out of range (`Number`), a new
+/// name or label for which the table is full (`TooManyLabels`). `Memory` means out of memory.
 pub fn expression<F: ExactField>(
     alloc: Global,
     source: &[u8],
@@ -104,8 +106,10 @@ pub fn expression<F: ExactField>(
     read
 }
 
-/// The longest operand that begins at a token, and the place of the token after it. The tokens,
-/// `from`, `unclosed`, the fault and the final names and labels are as in [`expression`].
+/// The longest operand that begins at the token with the index `from`, and the index of the token
+/// after the operand. An operand is a constant, a reference, a call, a fold, or an expression in
+/// parentheses. The tokens, `unclosed`, the fault and the final names and labels are as in
+/// [`expression`].
 pub fn primary<F: ExactField>(
     alloc: Global,
     source: &[u8],
@@ -137,8 +141,9 @@ pub fn primary<F: ExactField>(
     read
 }
 
-/// The longest control that begins at a token, and the place of the token after it. The tokens,
-/// `from`, `unclosed`, the fault and the final names and labels are as in [`expression`].
+/// The longest control that begins at the token with the index `from`, and the index of the token
+/// after the control. A control has the sets of a fold or a loop, perhaps with a condition. The
+/// tokens, `unclosed`, the fault and the final names and labels are as in [`expression`].
 pub fn control<F: ExactField>(
     alloc: Global,
     source: &[u8],
@@ -170,8 +175,10 @@ pub fn control<F: ExactField>(
     read
 }
 
-/// The longest target that begins at a token, and the place of the token after it. The tokens,
-/// `from`, `unclosed`, the fault and the final names and labels are as in [`expression`].
+/// The longest target that begins at the token with the index `from`, and the index of the token
+/// after the target. A target is a name, perhaps with a suffix and indices, as on the left of an
+/// assignment. The tokens, `unclosed`, the fault and the final names and labels are as in
+/// [`expression`].
 pub fn target<F: ExactField>(
     alloc: Global,
     source: &[u8],

@@ -20,7 +20,7 @@ use gms_labels::{Labels, Place};
 use gms_lex::Token;
 use std::alloc::Global;
 
-/// How many parentheses may be open.
+/// The greatest number of parentheses that may be open at once.
 pub const MOST_OPEN: u32 = 100;
 
 /// A part, and the place of the token after it.

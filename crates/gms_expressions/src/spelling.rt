@@ -6,11 +6,11 @@ ghost use Rattle.gms_expressions.specs.ExpressionTrees.{is_word, suffix_of, fold
 use gms_ast::{FoldOp, Function, LagOp, RelOp, Suffix};
 use gms_grammar::{Kind, Sym};
 
-/// The suffix that a word after a dot is, in capital or small letters (GAMS User's Guide,
+/// The suffix that a word after a dot names, in capital or small letters (GAMS User's Guide,
 /// "Variables").
 ///
-/// A word that is none of `lo`, `up`, `l`, `m`, `fx` and `modelstat` is answered as `solvestat`,
-/// the one remaining suffix.
+/// A word that is none of `lo`, `up`, `l`, `m`, `fx` and `modelstat` gives `SolveStat`, the one
+/// remaining suffix.
 #[tactic(auto, unfolding(crate::specs::ExpressionTrees::suffix_of))]
 pub fn suffix_of(word: &[u8]) -> Suffix
     ensures { result ≡ suffix_of word.now }
@@ -127,7 +127,7 @@ pub(crate) fn lag_op_of(kind: Kind) -> LagOp
     }
 }
 
-/// Whether a token is `-`.
+/// Whether a token of this kind is `-`.
 pub fn is_minus(kind: Kind) -> bool
     ensures { result ≡ is_minus kind }
 {

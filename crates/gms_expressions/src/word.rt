@@ -1,4 +1,4 @@
-//! What a token is to the grammar.
+//! The kinds by which the grammar knows tokens.
 ghost use Rattle.std.specs.Prelude.{◌≡◌, ◌≤◌, length};
 ghost use Rattle.gms_grammar.specs.Keywords.{kind_among};
 ghost use Rattle.gms_expressions.specs.Words.{expression_words, other_words, terminal_of_word, terminal_of_symbol, terminal_of_text, terminal_of};
@@ -129,7 +129,7 @@ pub fn bytes_of<'s>(source: &'s [u8], token: &Token) -> &'s [u8]
     &source[token.start as usize..token.end as usize]
 }
 
-/// What a token with these bytes is to the grammar.
+/// The terminal of the grammar for a token of this kind with these bytes.
 pub fn terminal_of(kind: Kind, text: &[u8]) -> Terminal
     ensures { result ≡ terminal_of kind text.now }
 {

@@ -2,25 +2,26 @@
 -- written.
 use Rattle.std.specs.Prelude.{ℕ, List, [], ◌∷◌, ◌++◌, map, slice_index_or, codes}
 
--- the text of this number in a table
+-- the text with the number n in a table of names or labels; empty if the table has no such number
 abbrev pub label_in_table : List (List ℕ) → ℕ → List ℕ
 label_in_table table n = slice_index_or table n []
 
--- texts with another between each and the next
+-- the texts in order, with the text `between` between each and the next
 abbrev pub joined_by : List ℕ → List (List ℕ) → List ℕ
 joined_by between [] = []
 joined_by between (text ∷ []) = text
 joined_by between (text ∷ next ∷ texts) = text ++ between ++ joined_by between (next ∷ texts)
 
--- the labels of a tuple with dots between them: `a.b`
+-- the labels of a tuple, given by their numbers, with dots between them: `a.b`
 abbrev pub dotted_text : List (List ℕ) → List ℕ → List ℕ
 dotted_text labels t = joined_by (codes ".") (map (label_in_table labels) t)
 
--- the labels of a tuple in parentheses: `(a,b)`; nothing if there are none
+-- the labels of a tuple, given by their numbers, in parentheses: `(a,b)`; empty if there are none
 abbrev pub in_parentheses : List (List ℕ) → List ℕ → List ℕ
 in_parentheses labels [] = []
 in_parentheses labels (label ∷ t) = codes "(" ++ joined_by (codes ",") (map (label_in_table labels) (label ∷ t)) ++ codes ")"
 
--- an element: `x` or `x(a,b)`
+-- the text of an element, given by the numbers of a name and of the labels of a tuple: `x` or
+-- `x(a,b)`
 abbrev pub element_text : List (List ℕ) → List (List ℕ) → ℕ → List ℕ → List ℕ
 element_text names labels name t = label_in_table names name ++ in_parentheses labels t

@@ -13,10 +13,11 @@ fn push_blanks(count: usize, into: &mut Vec<u8>) -> Result<(), AllocError>
     Ok(())
 }
 
-/// Appends a text right in a column of a width, with blanks before it. A longer text is appended
-/// whole.
+/// Appends a text to `into`, at the right edge of a column of `width` bytes: blanks, then the text.
+/// A text that is longer than the column is appended whole, without blanks.
 ///
-/// If memory runs out a prefix of it is appended. GAMS User's Guide, "GAMS Output".
+/// If memory runs out, a prefix of the blanks and the text is appended. GAMS User's Guide, "GAMS
+/// Output".
 pub fn right(_alloc: Global, text: &str, width: usize, into: &mut Vec<u8>) -> Result<(), AllocError>
     ensures { Appends result into.old.items into.new.items (right_in width text.now) }
 {
@@ -24,10 +25,11 @@ pub fn right(_alloc: Global, text: &str, width: usize, into: &mut Vec<u8>) -> Re
     into.extend_from_slice(text.as_bytes())
 }
 
-/// Appends a text left in a column of a width, with blanks after it. A longer text is appended
-/// whole.
+/// Appends a text to `into`, at the left edge of a column of `width` bytes: the text, then blanks.
+/// A text that is longer than the column is appended whole, without blanks.
 ///
-/// If memory runs out a prefix of it is appended. GAMS User's Guide, "GAMS Output".
+/// If memory runs out, a prefix of the text and the blanks is appended. GAMS User's Guide, "GAMS
+/// Output".
 pub fn left(_alloc: Global, text: &str, width: usize, into: &mut Vec<u8>) -> Result<(), AllocError>
     ensures { Appends result into.old.items into.new.items (left_in width text.now) }
 {

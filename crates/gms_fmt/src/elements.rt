@@ -6,8 +6,8 @@ use gms_labels::Labels;
 use gms_tuple::Tuple;
 use std::alloc::{AllocError, Global};
 
-/// The text of this number in a table, as it was first written; the empty text if the table has no
-/// such number.
+/// The text that has the number `n` in a table of names or labels, as it was first written; the
+/// empty text if the table has no such number.
 pub fn text_of(table: &Labels, n: u32) -> &str
     ensures { result.now ≡ label_in_table table.now n }
 {
@@ -34,8 +34,9 @@ fn push_labels(
     Ok(())
 }
 
-/// The text of an element: `x`, or with labels `x(a,b)`. Names and labels are as they were first
-/// written; a number past the end of its table has the empty text.
+/// The text of the element with the name `name` and the labels `t`: `x` if there are no labels, and
+/// else `x(a,b)`. Names and labels are as they were first written; a number past the end of its
+/// table has the empty text. The error is out of memory.
 pub fn element(
     alloc: Global,
     names: &Labels,
@@ -55,7 +56,8 @@ pub fn element(
 }
 
 /// The text of a tuple: its labels with dots between them, as `a.b`. Labels are as they were first
-/// written; a number past the end of the table has the empty text.
+/// written; a number past the end of the table `labels` has the empty text. The error is out of
+/// memory.
 pub fn dotted(alloc: Global, labels: &Labels, t: &Tuple) -> Result<String, AllocError>
     ensures { IfOk result (λ text. string_bytes text ≡ dotted_text labels.now t.now) }
 {

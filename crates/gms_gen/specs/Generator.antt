@@ -6,44 +6,44 @@ use Rattle.std.specs.Prelude.{ℕ, zero, suc, ◌+◌, ◌*◌, ◌/◌, ◌%◌
 
 -- ---- draws
 
--- the number that the sequence begins with
+-- the first number of the pseudo-random sequence that a seed determines
 abbrev pub first_seed : ℕ → ℕ
 first_seed seed = seed % 2 ^ 31
 
--- the number of the sequence that follows another
+-- the number that follows the number `state` in a pseudo-random sequence
 abbrev pub next_state : ℕ → ℕ
 next_state state = (1103515245 * state + 12345) % 2 ^ 31
 
--- the number of the sequence after `n` draws
+-- the number of the pseudo-random sequence of a seed that is reached after `n` draws
 abbrev pub seed_after : ℕ → ℕ → ℕ
 seed_after seed zero = first_seed seed
 seed_after seed (suc n) = next_state (seed_after seed n)
 
--- the draw of a number of the sequence: a number below another
+-- the draw that a number of the sequence gives: a number from 0 to below `below`
 abbrev pub drawn_by : ℕ → ℕ → ℕ
 drawn_by state below = (state / 65536) % below
 
--- the draw after `n` others
+-- the draw with the seed `seed` after `n` other draws: a number from 0 to below `below`
 abbrev pub drawn : ℕ → ℕ → ℕ → ℕ
 drawn seed n below = drawn_by (seed_after seed (suc n)) below
 
 -- ---- lines
 
--- the first `n` of some texts, joined
+-- the first `n` texts, which `text` gives by their numbers from 0, joined
 abbrev pub texts_below : ℕ → (ℕ → List ℕ) → List ℕ
 texts_below zero text = []
 texts_below (suc n) text = texts_below n text ++ text n
 
--- the sum of the first `n` numbers
+-- the sum of the first `n` numbers, which `number` gives by their positions from 0
 abbrev pub sum_below : ℕ → (ℕ → ℕ) → ℕ
 sum_below zero number = 0
 sum_below (suc n) number = sum_below n number + number n
 
--- a text as a line
+-- a text as a line: with a line feed at its end
 abbrev pub text_line : List ℕ → List ℕ
 text_line text = text ++ codes "\n"
 
--- the name of an element: a letter and its number, from 1 on
+-- the name of the element n, counted from 0: a letter and n + 1
 abbrev pub element : List ℕ → ℕ → List ℕ
 element letter n = letter ++ decimal (n + 1)
 
@@ -53,23 +53,23 @@ datum element value = text_line (element ++ codes " " ++ decimal value)
 
 -- The model of this seed, these plants and these markets.
 module _ (seed plants markets : ℕ) where
-  -- the demand of a market: from 10 to 99
+  -- the demand of a market, counted from 0: a draw from 10 to 99
   abbrev pub demand : ℕ → ℕ
   demand market = 10 + drawn seed market 90
 
-  -- the demand of all markets
+  -- the sum of the demands of all markets
   abbrev pub total_demand : ℕ
   total_demand = sum_below markets demand
 
-  -- the supply of a plant: its share of the total demand, and from 1 to 10 more
+  -- the supply of a plant, counted from 0: its share of the total demand, and from 1 to 10 more
   abbrev pub supply : ℕ → ℕ
   supply plant = total_demand / plants + 1 + drawn seed (markets + plant) 10
 
-  -- the cost of the route from a plant to a market: from 1 to 50
+  -- the cost of the route from a plant to a market: a draw from 1 to 50
   abbrev pub cost : ℕ → ℕ → ℕ
   cost plant market = 1 + drawn seed (markets + plants + plant * markets + market) 50
 
-  -- the names of the plants and the markets, and the data
+  -- the lines that declare the sets of plants and of markets
   abbrev pub set_lines : List ℕ
   set_lines = text_line (codes "set p /p1*p" ++ decimal plants ++ codes "/;") ++ text_line (codes "set m /m1*m" ++ decimal markets ++ codes "/;")
 
@@ -79,19 +79,19 @@ module _ (seed plants markets : ℕ) where
   abbrev pub supply_lines : List ℕ
   supply_lines = texts_below plants (λ plant. datum (element (codes "p") plant) (supply plant))
 
-  -- the costs of the routes from a plant
+  -- the lines with the costs of the routes from a plant
   abbrev pub costs_from : ℕ → List ℕ
   costs_from plant = texts_below markets (λ market. datum (element (codes "p") plant ++ codes "." ++ element (codes "m") market) (cost plant market))
 
   abbrev pub transport_cost_lines : List ℕ
   transport_cost_lines = texts_below plants costs_from
 
-  -- the variables, the equations, the model and its solve
+  -- the lines of the variables, the equations, the model and its solve
   abbrev pub model_lines : List ℕ
   model_lines =
       text_line (codes "positive variable x(p,m); variable z;") ++ text_line (codes "equations cost, supply(p), demand(m);") ++ text_line (codes "cost.. z =e= sum((p,m), c(p,m)*x(p,m));") ++ text_line (codes "supply(p).. sum(m, x(p,m)) =l= a(p);") ++ text_line (codes "demand(m).. sum(p, x(p,m)) =g= b(m);") ++ text_line (codes "model t /all/;") ++ text_line (codes "option iterlim = 100000, limrow = 0, limcol = 0;") ++ text_line (codes "solve t using lp minimizing z;")
 
-  -- the text of the model
+  -- the source text of the model
   abbrev pub generated_model_text : List ℕ
   generated_model_text =
       set_lines ++ text_line (codes "parameter b(m) /") ++ demand_lines ++ text_line (codes "/;") ++ text_line (codes "parameter a(p) /") ++ supply_lines ++ text_line (codes "/;") ++ text_line (codes "parameter c(p,m) /") ++ transport_cost_lines ++ text_line (codes "/;") ++ model_lines

@@ -1,9 +1,11 @@
--- The alternatives of each production, by name, in derivation trees. What a derivation means is
--- defined by cases of these names.
+-- The alternatives of each production, by name, in derivation trees: `left` is the first of two
+-- alternatives, and `right` the second or all others. What a derivation means is defined by cases
+-- of these names.
 use Rattle.gms_grammar.specs.Grammar.{DerivationTree, left, right}
 
 module _ {T : Type 0} where
-  -- Primary: a constant, a reference, a call, a fold, or an expression in parentheses
+  -- A tree of Primary by cases: each pattern makes it from the tree of one alternative. In order: a
+  -- constant, a reference, a call, a fold, or an expression in parentheses.
   pattern abbrev pub primary_constant : DerivationTree T → DerivationTree T
   primary_constant tree = left tree
 
@@ -19,14 +21,16 @@ module _ {T : Type 0} where
   pattern abbrev pub primary_expression : DerivationTree T → DerivationTree T
   primary_expression tree = right (right (right (right tree)))
 
-  -- Index: a label, or a set that a lag may follow
+  -- A tree of Index by cases: each pattern makes it from the tree of one alternative. In order: a
+  -- label, or a set that a lag may follow.
   pattern abbrev pub index_label : DerivationTree T → DerivationTree T
   index_label tree = left tree
 
   pattern abbrev pub index_set : DerivationTree T → DerivationTree T
   index_set tree = right tree
 
-  -- LagAmount: a number, a scalar, or an expression in parentheses
+  -- A tree of LagAmount by cases: each pattern makes it from the tree of one alternative. In order:
+  -- a number, a scalar, or an expression in parentheses.
   pattern abbrev pub amount_number : DerivationTree T → DerivationTree T
   amount_number tree = left tree
 
@@ -36,21 +40,24 @@ module _ {T : Type 0} where
   pattern abbrev pub amount_expression : DerivationTree T → DerivationTree T
   amount_expression tree = right (right tree)
 
-  -- Call: of a function, or of `ord` or `card`
+  -- A tree of Call by cases: each pattern makes it from the tree of one alternative. In order: a
+  -- call of a function, or of `ord` or `card`.
   pattern abbrev pub call_function : DerivationTree T → DerivationTree T
   call_function tree = left tree
 
   pattern abbrev pub call_set : DerivationTree T → DerivationTree T
   call_set tree = right tree
 
-  -- Control, before its condition: one set, or sets in parentheses
+  -- A tree of Control before its condition, by cases: each pattern makes it from the tree of one
+  -- alternative. In order: one set, or sets in parentheses.
   pattern abbrev pub control_set : DerivationTree T → DerivationTree T
   control_set tree = left tree
 
   pattern abbrev pub control_sets : DerivationTree T → DerivationTree T
   control_sets tree = right tree
 
-  -- KeywordStatement: a declaration, an alias, or a statement that a loop may have too
+  -- A tree of KeywordStatement by cases: each pattern makes it from the tree of one alternative. In
+  -- order: each declaration, an alias, or a statement that a loop may have too.
   pattern abbrev pub keyword_set : DerivationTree T → DerivationTree T
   keyword_set tree = left tree
 
@@ -78,15 +85,17 @@ module _ {T : Type 0} where
   pattern abbrev pub keyword_other : DerivationTree T → DerivationTree T
   keyword_other tree = right (right (right (right (right (right (right (right tree)))))))
 
-  -- InnerStatement: an assignment, or another statement
+  -- A tree of InnerStatement by cases: each pattern makes it from the tree of one alternative. In
+  -- order: an assignment, or another statement.
   pattern abbrev pub inner_assignment : DerivationTree T → DerivationTree T
   inner_assignment tree = left tree
 
   pattern abbrev pub inner_other : DerivationTree T → DerivationTree T
   inner_other tree = right tree
 
-  -- the last alternatives of KeywordStatement and of InnerStatement: a display, options, a solve,
-  -- an abort, or a loop
+  -- A tree of the last alternatives of KeywordStatement and of InnerStatement, by cases: each
+  -- pattern makes it from the tree of one alternative. In order: a display, options, a solve, an
+  -- abort, or a loop.
   pattern abbrev pub other_display : DerivationTree T → DerivationTree T
   other_display tree = left tree
 
@@ -102,7 +111,8 @@ module _ {T : Type 0} where
   pattern abbrev pub other_loop : DerivationTree T → DerivationTree T
   other_loop tree = right (right (right (right tree)))
 
-  -- AfterName: a suffix, indices, or neither
+  -- A tree of AfterName by cases: each pattern makes it from the tree of one alternative. In order:
+  -- a suffix, indices, or neither after the name.
   pattern abbrev pub name_suffixed : DerivationTree T → DerivationTree T
   name_suffixed tree = left tree
 
@@ -112,84 +122,96 @@ module _ {T : Type 0} where
   pattern abbrev pub name_alone : DerivationTree T → DerivationTree T
   name_alone tree = right (right tree)
 
-  -- HeadIndices: a label, or a set, before what follows it
+  -- A tree of HeadIndices by cases: each pattern makes it from the tree of one alternative. In
+  -- order: a label, or a set, with what follows it.
   pattern abbrev pub head_label : DerivationTree T → DerivationTree T
   head_label tree = left tree
 
   pattern abbrev pub head_set : DerivationTree T → DerivationTree T
   head_set tree = right tree
 
-  -- AfterHeadName: a lag, or none
+  -- A tree of AfterHeadName by cases: each pattern makes it from the tree of one alternative. In
+  -- order: a lag, or none.
   pattern abbrev pub head_lag : DerivationTree T → DerivationTree T
   head_lag tree = left tree
 
   pattern abbrev pub head_lagless : DerivationTree T → DerivationTree T
   head_lagless tree = right tree
 
-  -- AfterHeadIndex: a comma and a further index, or the closing parenthesis
+  -- A tree of AfterHeadIndex by cases: each pattern makes it from the tree of one alternative. In
+  -- order: a comma and a further index, or the closing parenthesis.
   pattern abbrev pub head_comma : DerivationTree T → DerivationTree T
   head_comma tree = left tree
 
   pattern abbrev pub head_closed : DerivationTree T → DerivationTree T
   head_closed tree = right tree
 
-  -- AfterHead, after its condition: `=` and the right side, or `..` and the sides
+  -- A tree of AfterHead after its condition, by cases: each pattern makes it from the tree of one
+  -- alternative. In order: `=` and the right side, or `..` and the two sides.
   pattern abbrev pub head_assigned : DerivationTree T → DerivationTree T
   head_assigned tree = left tree
 
   pattern abbrev pub head_defined : DerivationTree T → DerivationTree T
   head_defined tree = right tree
 
-  -- Shown: a text, or a symbol
+  -- A tree of Shown by cases: each pattern makes it from the tree of one alternative. In order: a
+  -- text, or a symbol.
   pattern abbrev pub shown_text : DerivationTree T → DerivationTree T
   shown_text tree = left tree
 
   pattern abbrev pub shown_symbol : DerivationTree T → DerivationTree T
   shown_symbol tree = right tree
 
-  -- Setting, after its `=`: a number, or a word
+  -- A tree of Setting after its `=`, by cases: each pattern makes it from the tree of one
+  -- alternative. In order: a number, or a word.
   pattern abbrev pub setting_number : DerivationTree T → DerivationTree T
   setting_number tree = left tree
 
   pattern abbrev pub setting_word : DerivationTree T → DerivationTree T
   setting_word tree = right tree
 
-  -- SolveStatement, after the model: `using` first, or the direction
+  -- A tree of SolveStatement after the model, by cases: each pattern makes it from the tree of one
+  -- alternative. In order: `using` first, or the direction first.
   pattern abbrev pub solve_using : DerivationTree T → DerivationTree T
   solve_using tree = left tree
 
   pattern abbrev pub solve_direction : DerivationTree T → DerivationTree T
   solve_direction tree = right tree
 
-  -- the items of a declaration, after an item: a comma, or a line end
+  -- A tree of what follows an item of a declaration, by cases: each pattern makes it from the tree
+  -- of one alternative. In order: a comma, or a line end.
   pattern abbrev pub items_comma : DerivationTree T → DerivationTree T
   items_comma tree = left tree
 
   pattern abbrev pub items_line : DerivationTree T → DerivationTree T
   items_line tree = right tree
 
-  -- ElementPart: a range, or ranges in parentheses
+  -- A tree of ElementPart by cases: each pattern makes it from the tree of one alternative. In
+  -- order: a range, or ranges in parentheses.
   pattern abbrev pub element_range : DerivationTree T → DerivationTree T
   element_range tree = left tree
 
   pattern abbrev pub element_ranges : DerivationTree T → DerivationTree T
   element_ranges tree = right tree
 
-  -- Value: NA, or a number or an infinity
+  -- A tree of Value by cases: each pattern makes it from the tree of one alternative. In order: NA,
+  -- or a number or an infinity.
   pattern abbrev pub value_not_available : DerivationTree T → DerivationTree T
   value_not_available tree = left tree
 
   pattern abbrev pub value_number : DerivationTree T → DerivationTree T
   value_number tree = right tree
 
-  -- ModelList: all equations, or those that are named
+  -- A tree of ModelList by cases: each pattern makes it from the tree of one alternative. In order:
+  -- all equations, or those that are named.
   pattern abbrev pub model_all : DerivationTree T → DerivationTree T
   model_all tree = left tree
 
   pattern abbrev pub model_named : DerivationTree T → DerivationTree T
   model_named tree = right tree
 
-  -- DomainPosition: `*`, or a set
+  -- A tree of DomainPosition by cases: each pattern makes it from the tree of one alternative. In
+  -- order: `*`, or a set.
   pattern abbrev pub position_any : DerivationTree T → DerivationTree T
   position_any tree = left tree
 

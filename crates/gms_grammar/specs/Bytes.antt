@@ -2,11 +2,11 @@
 use Rattle.std.specs.Prelude.{ℕ, Bool, not, ◌||◌, ◌==◌, nat_le}
 use Rattle.std.specs.Char.{is_ascii_alphanumeric}
 
--- a name continues with letters, digits and `_`
+-- a byte with which a name may continue: a letter, a digit or `_`
 abbrev pub is_name_byte : ℕ → Bool
 is_name_byte b = is_ascii_alphanumeric b || b == 95
 
--- a label continues with letters, digits, `+`, `-` and `_`
+-- a byte with which a label may continue: a letter, a digit, `+`, `-` or `_`
 abbrev pub is_label_byte : ℕ → Bool
 is_label_byte b = is_ascii_alphanumeric b || (b == 43 || (b == 45 || b == 95))
 
@@ -14,8 +14,8 @@ is_label_byte b = is_ascii_alphanumeric b || (b == 43 || (b == 45 || b == 95))
 abbrev pub is_quote : ℕ → Bool
 is_quote b = b == 34 || b == 39
 
--- An unquoted descriptive text ends before `/`, `,`, `;` and the line's end, and at any carriage
--- return.
+-- A byte of an unquoted descriptive text, which ends before `/`, `,`, `;` and the line's end, and
+-- at any carriage return.
 abbrev pub is_text_byte : ℕ → Bool
 is_text_byte b = not (b == 47 || (b == 44 || (b == 59 || (b == 10 || b == 13))))
 

@@ -22,11 +22,11 @@ lex_error_name LongLabel = codes "LongLabel"
 lex_error_name LongLine = codes "LongLine"
 lex_error_name UnknownControl = codes "UnknownControl"
 
--- A fault comes before another, or is the same: by its place, and at one place by its number.
+-- The fault f comes before g, or at the same place with a number that is at most that of g.
 abbrev pub IsBefore : ByteFault → ByteFault → Type 0
 IsBefore f g = (f.at < g.at) ⊎ ((f.at ≡ g.at) × (lex_error_code f.error ≤ lex_error_code g.error))
 
--- Of these faults, this is the first; or there is none.
+-- The fault is the first of those that satisfy `Occurs`; None if no fault satisfies it.
 abbrev pub IsFirstFault : (ByteFault → Type 0) → Option ByteFault → Type 0
 IsFirstFault Occurs None = (f : ByteFault) → Occurs f → ⊥
 IsFirstFault Occurs (Some f) = Occurs f × ((g : ByteFault) → Occurs g → IsBefore f g)

@@ -28,11 +28,11 @@ pub data Nonterminal : Type 0 where
 abbrev pub token : Terminal → Part Terminal Nonterminal
 token kind = one (is kind)
 
--- one token of some kinds
+-- one token, of one of these kinds
 abbrev pub any_of : List Terminal → Part Terminal Nonterminal
 any_of kinds = one (is_terminal_among kinds)
 
--- a name: a word that is not reserved
+-- a name: a word that is not reserved. A suffix word, such as `lo`, is a name too
 abbrev pub name : Part Terminal Nonterminal
 name = any_of (Name ∷ Suffix ∷ [])
 
@@ -46,21 +46,22 @@ word =
 abbrev pub bracketed : Part Terminal Nonterminal → Part Terminal Nonterminal
 bracketed part = token LeftParen · part · token RightParen
 
--- parts with commas between them
+-- one or more of a part, with commas between them
 abbrev pub comma_list : Part Terminal Nonterminal → Part Terminal Nonterminal
 comma_list part = part · many (token Comma · part)
 
--- the elements of a list between slashes, with commas or line ends between them
+-- one or more of a part, in a list between slashes, with commas or line ends between them
 abbrev pub separated : Part Terminal Nonterminal → Part Terminal Nonterminal
 separated part = part · many (any_of (Comma ∷ Break ∷ []) · part)
 
--- Items of a declaration, with commas or line ends between them. After the line end after the last
--- item a statement keyword begins the next statement: item { ("," | Break) item } [Break], where
--- the last Break and one between items look alike.
+-- One or more items of a declaration, with a comma or a line end between them, and perhaps a line
+-- end after the last: item { ("," | Break) item } [Break]. `item` is the nonterminal of one item
+-- and `again` that of these items. The form is recursive, since one token cannot distinguish the
+-- last Break from one between items.
 abbrev pub items : Nonterminal → Nonterminal → Part Terminal Nonterminal
 items item again = the item · opt (token Comma · the again ∣ token Break · opt (the again))
 
--- the productions
+-- the production of each nonterminal
 abbrev pub productions : Nonterminal → Part Terminal Nonterminal
 -- An expression: `or` and `xor` bind least, then `and`, `not`, relations, sums, products, powers,
 -- and `$` most.

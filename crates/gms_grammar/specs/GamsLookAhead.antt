@@ -7,7 +7,7 @@ use Rattle.gms_grammar.specs.LookAhead.{LookAhead}
 use Rattle.gms_grammar.specs.Terminals.{is_terminal_among}
 use Rattle.gms_grammar.specs.GamsGrammar.{Nonterminal, Expression, Conjunction, Negation, Comparison, Sum, Product, PowerTerm, Guarded, Condition, Primary, Target, Attribute, IndexList, Index, Lag, LagAmount, Call, ExpressionList, Fold, Control, NameList, Program, Segment, KeywordStatement, NamedStatement, AfterName, HeadIndices, AfterHeadName, AfterHeadIndex, AfterLag, AfterHead, AfterTarget, Sides, LoopStatement, LoopBody, InnerStatement, Assignment, AliasStatement, DisplayStatement, ShownList, Shown, OptionStatement, Setting, SolveStatement, AbortStatement, SetStatement, SetItems, SetItem, SetList, Element, ElementPart, Range, RangeList, ParameterStatement, ParameterItems, ParameterItem, ParameterList, Entry, Value, ScalarStatement, ScalarItems, ScalarItem, TableStatement, VariableStatement, EquationStatement, PlainItems, PlainItem, ModelStatement, ModelItems, ModelItem, ModelList, Domain, DomainList, DomainPosition}
 
--- the kinds of tokens that may come first in a nonterminal
+-- the kinds of tokens with which a nonterminal can begin
 abbrev pub firsts : Nonterminal → List Terminal
 firsts Expression = Name ∷ Suffix ∷ Function ∷ OrdCard ∷ FoldOp ∷ Infinity ∷ NotAvailable ∷ YesNo ∷ Not ∷ Number ∷ Sign ∷ LeftParen ∷ []
 firsts Conjunction = Name ∷ Suffix ∷ Function ∷ OrdCard ∷ FoldOp ∷ Infinity ∷ NotAvailable ∷ YesNo ∷ Not ∷ Number ∷ Sign ∷ LeftParen ∷ []
@@ -84,7 +84,7 @@ firsts Domain = LeftParen ∷ []
 firsts DomainList = Name ∷ Suffix ∷ Star ∷ []
 firsts DomainPosition = Name ∷ Suffix ∷ Star ∷ []
 
--- the kinds of tokens that may follow a nonterminal in a program
+-- the kinds of tokens that can follow a nonterminal in a program
 abbrev pub follows : Nonterminal → List Terminal
 follows Expression = Abort ∷ Alias ∷ Display ∷ Equation ∷ Loop ∷ Model ∷ Option ∷ Parameter ∷ Scalar ∷ Set ∷ Solve ∷ Table ∷ Variable ∷ VariableType ∷ Sense ∷ RightParen ∷ Comma ∷ Semicolon ∷ []
 follows Conjunction = Abort ∷ Alias ∷ Display ∷ Equation ∷ Loop ∷ Model ∷ Option ∷ Parameter ∷ Scalar ∷ Set ∷ Solve ∷ Table ∷ Variable ∷ VariableType ∷ Or ∷ Sense ∷ RightParen ∷ Comma ∷ Semicolon ∷ []
@@ -161,13 +161,14 @@ follows Domain = Abort ∷ Alias ∷ Display ∷ Equation ∷ Loop ∷ Model ∷
 follows DomainList = RightParen ∷ []
 follows DomainPosition = RightParen ∷ Comma ∷ []
 
--- whether a nonterminal may be empty
+-- whether a nonterminal derives the empty list of tokens
 abbrev pub is_empty : Nonterminal → Bool
 is_empty Program = true
 is_empty Segment = true
 is_empty _ = false
 
--- a number above those of the nonterminals in a least tree of a nonterminal
+-- a depth of each nonterminal: some derivation tree of it has, below its root, only nonterminals of
+-- less depth, so each nonterminal derives something
 abbrev pub least_depth : Nonterminal → ℕ
 least_depth Expression = 8
 least_depth Conjunction = 7
@@ -244,7 +245,8 @@ least_depth Domain = 2
 least_depth DomainList = 1
 least_depth DomainPosition = 0
 
--- a number above those of the nonterminals that may come first in a nonterminal
+-- a rank of each nonterminal: those with which it can begin have a lower rank, so no nonterminal
+-- begins with itself
 abbrev pub leading_rank : Nonterminal → ℕ
 leading_rank Expression = 9
 leading_rank Conjunction = 8
@@ -321,6 +323,7 @@ leading_rank Domain = 0
 leading_rank DomainList = 1
 leading_rank DomainPosition = 0
 
--- what one token tells
+-- the tables above in one record: what is known of each nonterminal, so that one token of
+-- look-ahead decides how to continue
 abbrev pub look_ahead : LookAhead Terminal Nonterminal
 look_ahead = record { first = λ n. is_terminal_among (firsts n); follow = λ n. is_terminal_among (follows n); empty = is_empty; depth = least_depth; rank = leading_rank }

@@ -20,7 +20,7 @@ pub data Part (C N : Type 0) : Type 0 where
 
 infixr 5 ◌·◌
 infixr 4 ◌∣◌
--- A tree of tokens, in which each part of a production has its place.
+-- A derivation tree over tokens of T, with a node for each part of a production.
 pub data DerivationTree (T : Type 0) : Type 0 where
   -- of one token
   leaf : T → DerivationTree T
@@ -53,7 +53,8 @@ yield (node tree) = yield tree
 -- Below, each nonterminal has one production, and a token is its kind with what else is known of
 -- it.
 module _ {C N D : Type 0} (production : N → Part C N) where
-  -- a tree is one of a part
+  -- the tree is a derivation tree of the part: it has the form of the part, and each of its tokens
+  -- passes the test of its place
   abbrev pub IsTree : Part C N → DerivationTree (C × D) → Type 0
   IsTree (one test) (leaf token) = test token.0 ≡ true
   IsTree (the n) (node tree) = IsTree (production n) tree
@@ -66,23 +67,25 @@ module _ {C N D : Type 0} (production : N → Part C N) where
   IsTree (many p) (more a b) = IsTree p a × IsTree (many p) b
   IsTree _ _ = ⊥
 
-  -- A part derives the tokens, by a tree.
+  -- The part derives the tokens: they are the tokens of a derivation tree of it.
   pub record Derives (part : Part C N) (tokens : List (C × D)) : Type 0 where
     pub tree : DerivationTree (C × D)
     pub is_tree : IsTree part tree
     pub yields : yield tree ≡ tokens
 
-  -- The tokens begin some list that the part derives: further tokens complete them.
+  -- The tokens are a prefix of a list that the part derives; `further` is the rest of that list,
+  -- which may be empty.
   pub record Begins (part : Part C N) (tokens : List (C × D)) : Type 0 where
     pub further : List (C × D)
     pub derives : Derives part (tokens ++ further)
 
-  -- the next of the tokens, if any, is unexpected after those before it: with it they begin nothing
+  -- the first of the tokens after `prefix` is unexpected there: no list that the part derives
+  -- begins with `prefix` and that token; true if no token comes after `prefix`
   abbrev pub IsUnexpected : Part C N → List (C × D) → List (C × D) → Type 0
   IsUnexpected part prefix [] = ⊤
   IsUnexpected part prefix (next ∷ rest) = Begins part (prefix ++ next ∷ []) → ⊥
 
-  -- `prefix` is the longest prefix of the tokens that begins some list that the part derives, and
+  -- `prefix` is the longest prefix of the tokens that begins a list that the part derives, and
   -- `rest` follows it.
   pub record Stops (part : Part C N) (tokens prefix rest : List (C × D)) : Type 0 where
     pub parts : tokens ≡ prefix ++ rest

@@ -5,7 +5,7 @@ use Rattle.gms_grammar.specs.ControlWords.{is_word_among}
 use Rattle.gms_grammar.specs.declared.terminal.Terminal.{Terminal}
 use Rattle.gms_grammar.specs.declared.terminal.Terminal.TheVariants.{Abort, Alias, Display, Equation, Loop, Model, Option as OptionWord, Parameter, Scalar, Set, Solve, Table, Variable, VariableType}
 
--- the words of a kind
+-- a kind of tokens, with the words that are of this kind
 abbrev pub Words : Type 0
 Words = Terminal × List (List ℕ)
 
@@ -28,7 +28,8 @@ statement_words =
     (VariableType, codes "free" ∷ codes "positive" ∷ codes "negative" ∷ codes "binary" ∷ codes "integer" ∷ codes "sos1" ∷ codes "sos2" ∷ []) ∷
     []
 
--- the kind of the words among which a word is, letter case ignored
+-- the kind to which a word belongs, letter case ignored, by these lists of words; None if it is in
+-- none
 abbrev pub kind_among : List ℕ → List Words → Option Terminal
 kind_among word [] = None
 kind_among word (words ∷ others) = if is_word_among word words.1 then Some words.0 else kind_among word others

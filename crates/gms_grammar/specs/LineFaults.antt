@@ -11,7 +11,7 @@ use Rattle.gms_grammar.specs.declared.fault.ByteFault.{ByteFault}
 use Rattle.gms_grammar.specs.ControlWords.{control_words, is_word_among}
 use Rattle.gms_grammar.specs.Lines.{content, class_of, first_word, closes, opens, inside_after, lines}
 
--- how many bytes a line may have, its end not counted
+-- the greatest number of bytes of a line, its end not counted
 abbrev pub longest_line : ℕ
 longest_line = 32768
 
@@ -19,20 +19,23 @@ longest_line = 32768
 abbrev pub is_control_byte : ℕ → Bool
 is_control_byte b = (nat_lt b 32 && not (b == 9)) || b == 127
 
--- A byte that no line of this class may contain, whatever surrounds it. Code may contain bytes
+-- Whether no line of this class may contain the byte, whatever surrounds it. Code may contain bytes
 -- above 127 in texts.
 abbrev pub is_bad : Class → ℕ → Bool
 is_bad Comment b = is_control_byte b
 is_bad Control b = is_control_byte b || nat_lt 127 b
 is_bad Code b = is_control_byte b
 
--- a control line whose first word is not accepted
+-- whether the line, of this class, is a control line whose first word is none of `control_words`,
+-- letter case ignored
 abbrev pub is_unknown_control : Class → List ℕ → Bool
 is_unknown_control Control line = not (is_word_among (first_word line) control_words)
 is_unknown_control Comment line = false
 is_unknown_control Code line = false
 
--- The error is at byte k of this line, which these others follow.
+-- The line has this error at its byte k. `inside` is whether the line is inside a block of comment,
+-- and `others` are the lines after it. A block that is not ended, a long line and an unknown
+-- control word are at byte 0.
 abbrev pub IsLineError : Bool → List ℕ → List (List ℕ) → ℕ → LexError → Type 0
 IsLineError inside line others k BadByte = (k < length (content line)) × (is_bad (class_of inside line) (get_or (content line) k 0) ≡ true)
 IsLineError inside line others k OpenText = (k ≡ 0) × (opens inside line ≡ true) × (list_any closes others ≡ false)
@@ -41,13 +44,13 @@ IsLineError inside line others k UnknownControl = (k ≡ 0) × (is_unknown_contr
 IsLineError inside line others k OpenQuote = ⊥
 IsLineError inside line others k LongLabel = ⊥
 
--- The fault is in these lines, of which the first begins at byte `start`, inside a block of comment
--- or outside.
+-- One of these lines has the fault. The first line begins at byte `start` of the source, and
+-- `inside` is whether it is inside a block of comment.
 abbrev pub IsInLines : ℕ → Bool → List (List ℕ) → ByteFault → Type 0
 IsInLines start inside [] fault = ⊥
 IsInLines start inside (line ∷ others) fault =
     ((k : ℕ) × (fault.at ≡ start + k) × IsLineError inside line others k fault.error) ⊎ IsInLines (start + length line) (inside_after inside line) others fault
 
--- the fault is in a line of the source
+-- a line of the source has the fault
 abbrev pub IsLineFault : List ℕ → ByteFault → Type 0
 IsLineFault source fault = IsInLines 0 false (lines source) fault

@@ -7,7 +7,7 @@ use Rattle.gms_grammar.specs.declared.line.Class.{Class}
 use Rattle.gms_grammar.specs.declared.line.Class.TheVariants.{Comment, Control, Code}
 use Rattle.gms_grammar.specs.ControlWords.{block_word, block_end}
 
--- the byte begins the first line
+-- the lines with this byte before the first of them; without lines, the byte is a line
 abbrev pub put_first : ℕ → List (List ℕ) → List (List ℕ)
 put_first b [] = (b ∷ []) ∷ []
 put_first b (line ∷ others) = (b ∷ line) ∷ others
@@ -27,7 +27,8 @@ abbrev pub is_line_end : List ℕ → Bool
 is_line_end [] = false
 is_line_end (b ∷ text) = b == 10 || (b == 13 && begins (λ c. c == 10) text)
 
--- how many bytes of a text come before the first place where the rest of it passes the test
+-- how many bytes of a text come before the first place from which the rest of the text passes the
+-- test; all if there is none
 abbrev pub before : (List ℕ → Bool) → List ℕ → ℕ
 before test [] = 0
 before test (b ∷ text) = if test (b ∷ text) then 0 else 1 + before test text
@@ -46,42 +47,43 @@ abbrev pub class_by_column : List ℕ → Class
 class_by_column [] = Code
 class_by_column (b ∷ line) = if b == 42 then Comment else (if b == 36 then Control else Code)
 
--- The class of a line, inside a block of comment or outside. The line that ends a block is comment
--- too.
+-- The class of a line; the Bool is whether it is inside a block of comment. The line that ends a
+-- block is comment too.
 abbrev pub class_of : Bool → List ℕ → Class
 class_of true line = Comment
 class_of false line = class_by_column line
 
--- the first word of a line goes up to a blank
+-- the first word of a line: its bytes up to a blank or its end
 abbrev pub first_word : List ℕ → List ℕ
 first_word line = take_while (λ b. not (is_blank b)) (content line)
 
--- a line begins with `$offtext`, letter case ignored
+-- whether a line inside a block of comment ends it: it begins with `$offtext`, letter case ignored
 abbrev pub closes : List ℕ → Bool
 closes line = str_eq_ignore_ascii_case (take 8 line) block_end
 
--- a line outside a block begins one
+-- whether a line begins a block of comment: it is outside of one, and its first word is `$ontext`,
+-- letter case ignored
 abbrev pub opens : Bool → List ℕ → Bool
 opens true line = false
 opens false line = str_eq_ignore_ascii_case (first_word line) block_word
 
--- the next line is inside a block of comment
+-- whether the line after this one is inside a block of comment; the Bool is whether this one is
 abbrev pub inside_after : Bool → List ℕ → Bool
 inside_after true line = not (closes line)
 inside_after false line = opens false line
 
--- a byte of a line without tokens, replaced by a blank; tabs and line ends stay, so that every
--- column stays
+-- a blank in place of the byte, except of a tab and of a line end, so that each column stays
 abbrev pub blanked : ℕ → ℕ
 blanked b = if b == 9 || (b == 10 || b == 13) then b else 32
 
--- a line as tokens are read from it: comments and control lines are blank
+-- a line of this class as tokens are read from it: comments and control lines are blank
 abbrev pub read_as : Class → List ℕ → List ℕ
 read_as Comment line = map blanked line
 read_as Control line = map blanked line
 read_as Code line = line
 
--- these lines as tokens are read from them
+-- the text that tokens are read from, for these lines; `inside` is whether the first of them is
+-- inside a block of comment
 abbrev pub code_of : Bool → List (List ℕ) → List ℕ
 code_of inside [] = []
 code_of inside (line ∷ others) = read_as (class_of inside line) line ++ code_of (inside_after inside line) others
@@ -91,7 +93,7 @@ code_of inside (line ∷ others) = read_as (class_of inside line) line ++ code_o
 abbrev pub code_text : List ℕ → List ℕ
 code_text source = code_of false (lines source)
 
--- how many bytes come before the first line feed
+-- how many bytes of a text come before its first line feed; all if it has none
 abbrev pub before_feed : List ℕ → ℕ
 before_feed text = prefix_len (λ b. not (b == 10)) text
 

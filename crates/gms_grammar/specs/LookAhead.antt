@@ -3,21 +3,21 @@
 use Rattle.std.specs.Prelude.{◌≡◌, ℕ, nat_lt, Bool, true, false, not, ◌&&◌, ◌||◌}
 use Rattle.gms_grammar.specs.Grammar.{Part, one, the, ◌·◌, ◌∣◌, opt, many}
 
--- The claims about each nonterminal.
+-- What a table for predictive parsing claims of each nonterminal.
 pub record LookAhead (C N : Type 0) : Type 0 where
-  -- whether a token of the kind may come first in it
+  -- whether the nonterminal can begin with a token of the kind
   pub first : N → C → Bool
-  -- whether a token of the kind may follow it
+  -- whether a token of the kind can follow the nonterminal
   pub follow : N → C → Bool
-  -- whether it may be empty
+  -- whether the nonterminal derives the empty list of tokens
   pub empty : N → Bool
-  -- a number above those of the nonterminals in its least tree
+  -- a depth: some tree of the nonterminal has, below its root, only nonterminals of less depth
   pub depth : N → ℕ
-  -- a number above those of the nonterminals that may come first in it
+  -- a rank: the nonterminals with which it can begin have a lower one
   pub rank : N → ℕ
 
 module _ {C N : Type 0} (ahead : LookAhead C N) where
-  -- whether a part may be empty
+  -- whether a part derives the empty list of tokens
   abbrev pub may_be_empty : Part C N → Bool
   may_be_empty (one test) = false
   may_be_empty (the n) = ahead.empty n
@@ -26,7 +26,7 @@ module _ {C N : Type 0} (ahead : LookAhead C N) where
   may_be_empty (opt p) = true
   may_be_empty (many p) = true
 
-  -- whether a token of a kind may come first in a part
+  -- whether a part can begin with a token of a kind
   abbrev pub may_begin : Part C N → C → Bool
   may_begin (one test) c = test c
   may_begin (the n) c = ahead.first n c
@@ -35,18 +35,18 @@ module _ {C N : Type 0} (ahead : LookAhead C N) where
   may_begin (opt p) c = may_begin p c
   may_begin (many p) c = may_begin p c
 
-  -- whether a token of a kind may follow a part: `q` comes next and may begin with the token, or
-  -- `q` may be empty and the token may follow it
+  -- whether a token of a kind can come next before the part `q`: `q` can begin with it, or `q` can
+  -- be empty and the token can come after it
   abbrev pub may_come_next : Part C N → (C → Bool) → C → Bool
   may_come_next q after c = may_begin q c || (may_be_empty q && after c)
 
-  -- no kind passes both tests
+  -- no kind of token passes both tests
   abbrev pub Apart : (C → Bool) → (C → Bool) → Type 0
   Apart f g = (c : C) → f c ≡ true → g c ≡ true → ⊥
 
-  -- One token decides how to continue in a part, if the tokens that follow it pass a test.
-  -- Alternatives are not empty, and no token begins both. What may be left out or repeated is not
-  -- empty, and no token that begins it may follow.
+  -- One token decides how to continue in a part, where `after` is the test that each token after
+  -- the part passes. Alternatives are not empty, and no token begins both. What may be left out or
+  -- repeated is not empty, and no token that begins it may follow it.
   abbrev pub IsDecided : Part C N → (C → Bool) → Type 0
   IsDecided (one test) after = (c : C) × (test c ≡ true)
   IsDecided (the n) after = (c : C) → after c ≡ true → ahead.follow n c ≡ true
@@ -56,7 +56,8 @@ module _ {C N : Type 0} (ahead : LookAhead C N) where
   IsDecided (opt p) after = (may_be_empty p ≡ false) × Apart (may_begin p) after × IsDecided p after
   IsDecided (many p) after = (may_be_empty p ≡ false) × Apart (may_begin p) after × IsDecided p (λ c. may_begin p c || after c)
 
-  -- some tree of a part has only nonterminals of less depth
+  -- whether some tree of the part has, at its outermost level, only nonterminals with a depth below
+  -- the bound
   abbrev pub ends_below : ℕ → Part C N → Bool
   ends_below bound (one test) = true
   ends_below bound (the n) = nat_lt (ahead.depth n) bound
@@ -65,7 +66,7 @@ module _ {C N : Type 0} (ahead : LookAhead C N) where
   ends_below bound (opt p) = true
   ends_below bound (many p) = true
 
-  -- the nonterminals that may come first in a part are of less rank
+  -- whether all nonterminals with which the part can begin have a rank below the bound
   abbrev pub ranks_below : ℕ → Part C N → Bool
   ranks_below bound (one test) = true
   ranks_below bound (the n) = nat_lt (ahead.rank n) bound
@@ -74,7 +75,8 @@ module _ {C N : Type 0} (ahead : LookAhead C N) where
   ranks_below bound (opt p) = ranks_below bound p
   ranks_below bound (many p) = ranks_below bound p
 
-  -- The claims hold, and one token decides each production.
+  -- What `ahead` claims of each nonterminal holds for these productions, and one token decides each
+  -- production.
   pub record DecidesEach (production : N → Part C N) : Type 0 where
     pub first_is : (n : N) (c : C) → may_begin (production n) c ≡ ahead.first n c
     pub empty_is : (n : N) → may_be_empty (production n) ≡ ahead.empty n

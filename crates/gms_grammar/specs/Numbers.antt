@@ -8,16 +8,16 @@ use Rattle.gms_grammar.specs.Lines.{begins}
 abbrev pub digit_count : List ℕ → ℕ
 digit_count text = prefix_len is_ascii_digit text
 
--- a text begins with a dot
+-- whether a text begins with a dot
 abbrev pub begins_dot : List ℕ → Bool
 begins_dot text = begins (λ b. b == 46) text
 
--- a number begins with a digit, or with a dot and a digit
+-- whether a text begins with a number: with a digit, or with a dot and a digit
 abbrev pub begins_number : List ℕ → Bool
 begins_number text = begins is_ascii_digit text || (begins_dot text && begins is_ascii_digit (drop 1 text))
 
--- How many bytes the dot after a number's digits takes, with any digits after it. The dot does not
--- belong to the number if another dot follows it.
+-- How many bytes the dot after a number's digits takes, with the digits after it; 0 without a dot.
+-- The dot does not belong to the number if another dot follows it.
 abbrev pub point_length : List ℕ → ℕ
 point_length rest = if begins_dot rest && not (begins_dot (drop 1 rest)) then 1 + digit_count (drop 1 rest) else 0
 
@@ -25,17 +25,18 @@ point_length rest = if begins_dot rest && not (begins_dot (drop 1 rest)) then 1 
 abbrev pub is_sign : ℕ → Bool
 is_sign b = b == 43 || b == 45
 
--- how many bytes the sign of an exponent takes
+-- how many bytes the sign of an exponent takes: 1, or 0 without a sign
 abbrev pub sign_length : List ℕ → ℕ
 sign_length rest = if begins is_sign rest then 1 else 0
 
--- how many bytes an exponent takes: `e`, an optional sign and at least one digit
+-- how many bytes an exponent takes: `e`, an optional sign and at least one digit; 0 if the text
+-- does not begin with an exponent
 abbrev pub exponent_length : List ℕ → ℕ
 exponent_length rest =
     let digits = drop (1 + sign_length (drop 1 rest)) rest in
     if begins (λ b. b == 101 || b == 69) rest && begins is_ascii_digit digits then 1 + sign_length (drop 1 rest) + digit_count digits else 0
 
--- how many bytes a number takes before its exponent
+-- how many bytes the digits and the point of the number take with which a text begins
 abbrev pub decimal_length : List ℕ → ℕ
 decimal_length text = digit_count text + point_length (drop (digit_count text) text)
 

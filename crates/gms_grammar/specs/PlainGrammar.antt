@@ -27,7 +27,7 @@ plain_named = the Assignment ∣ plain_definition
 abbrev pub plain_body : Part Terminal Nonterminal
 plain_body = the InnerStatement · many (token Semicolon · the InnerStatement) · opt (token Semicolon)
 
--- Items of a declaration: with a comma or a line end between them, and perhaps a line end after the
--- last.
+-- One or more items of a declaration, with a comma or a line end between them, and perhaps a line
+-- end after the last.
 abbrev pub plain_items : Nonterminal → Part Terminal Nonterminal
 plain_items item = the item · many ((token Comma ∣ token Break) · the item) · opt (token Break)

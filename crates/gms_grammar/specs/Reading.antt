@@ -4,21 +4,21 @@ use Rattle.std.specs.Prelude.{◌≡◌, Bool, true, false, List, [], ◌∷◌,
 use Rattle.gms_grammar.specs.Grammar.{Part, one, the, ◌·◌, ◌∣◌, opt, many, DerivationTree, leaf, pair, left, right, none, some, more, node, yield}
 use Rattle.gms_grammar.specs.LookAhead.{LookAhead, may_begin}
 
--- What a reader finds.
+-- What a reader finds for a part: a tree, or a token at which it is stuck.
 pub data Found (T : Type 0) : Type 0 where
   -- a tree, and the tokens after it
   read : DerivationTree T → List T → Found T
-  -- the tokens read until no token could continue, and the rest
+  -- the tokens that are read before an unexpected one or the end, and those that remain
   stuck : List T → List T → Found T
 
 module _ {C N D : Type 0} (production : N → Part C N) (ahead : LookAhead C N) where
-  -- whether the first of the tokens may begin a part
+  -- whether the part can begin with the first of the tokens; false without tokens
   abbrev pub leads : Part C N → List (C × D) → Bool
   leads p [] = false
   leads p (token ∷ tokens) = may_begin ahead p token.0
 
-  -- The result of reading a part from the tokens: the reader enters a part if the next token may
-  -- begin it, and else omits it.
+  -- What a predictive reader finds for a part at the start of the tokens: it enters a part if the
+  -- part can begin with the next token; else it omits the part or is stuck.
   pub data Reads : Part C N → List (C × D) → Found (C × D) → Type 0 where
     taken : {test : C → Bool} {token : C × D} {rest : List (C × D)} →
         test token.0 ≡ true → Reads (one test) (token ∷ rest) (read (leaf token) rest)
@@ -57,7 +57,8 @@ module _ {C N D : Type 0} (production : N → Part C N) (ahead : LookAhead C N) 
         leads p tokens ≡ true →
         Reads p tokens (read a between) → Reads (many p) between (stuck prefix rest) → Reads (many p) tokens (stuck (yield a ++ prefix) rest)
 
-  -- A reader of a part reads the tokens `prefix`, at least one, within the part or up to its end.
+  -- While it reads a part from the tokens, a reader has at some time read `prefix`, which is at
+  -- least one token; `rest` follows it.
   pub data Takes : Part C N → List (C × D) → List (C × D) → List (C × D) → Type 0 where
     takes_one : {test : C → Bool} {token : C × D} {rest : List (C × D)} →
         test token.0 ≡ true → Takes (one test) (token ∷ rest) (token ∷ []) rest

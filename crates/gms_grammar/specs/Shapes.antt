@@ -17,7 +17,7 @@ use Rattle.gms_grammar.specs.Bytes.{is_name_byte, is_label_byte, is_quote, is_te
 use Rattle.gms_grammar.specs.Numbers.{begins_number, number_length}
 use Rattle.gms_grammar.specs.Symbols.{longest_symbol}
 
--- the piece at the start of a text, or the error instead of one
+-- the result of reading the start of a text: a piece, or an error
 abbrev pub Read : Type 0
 Read = Result Lexeme Misread
 
@@ -25,7 +25,7 @@ Read = Result Lexeme Misread
 abbrev pub lexeme : Piece → ℕ → Read
 lexeme piece length = Ok record { piece = piece; length = length }
 
--- an error `ahead` bytes after the start
+-- an error `ahead` bytes after the start of the text
 abbrev pub misread : LexError → ℕ → Read
 misread error ahead = Err record { error = error; ahead = ahead }
 
@@ -35,15 +35,15 @@ abbrev pub IsWithinText : List ℕ → Read → Type 0
 IsWithinText text (Ok p) = (0 < p.length) × (p.length ≤ length text)
 IsWithinText text (Err m) = m.ahead ≤ length text
 
--- how many bytes a name or a label may have, quotation marks not counted
+-- the greatest number of bytes of a name or a label, quotation marks not counted
 abbrev pub longest_label : ℕ
 longest_label = 63
 
--- a word or a label of `length` bytes
+-- a word or a label of `length` bytes; LongLabel if that is over 63
 abbrev pub bounded : Kind → ℕ → Read
 bounded kind length = if nat_lt longest_label length then misread LongLabel 0 else lexeme (Token kind) length
 
--- the result for the symbol found, or a bad byte without one
+-- a symbol that was found, with its number of bytes; the error BadByte without one
 abbrev pub symbol_read : Option (ℕ × Sym) → Read
 symbol_read None = misread BadByte 0
 symbol_read (Some symbol) = lexeme (Token (Symbol symbol.1)) symbol.0
@@ -52,46 +52,50 @@ symbol_read (Some symbol) = lexeme (Token (Symbol symbol.1)) symbol.0
 abbrev pub symbol : List ℕ → Read
 symbol text = symbol_read (longest_symbol text)
 
--- how many bytes come before the closing mark, or the line feed
+-- how many bytes of a text come before this quotation mark or a line feed; all if it has neither
 abbrev pub quoted_length : ℕ → List ℕ → ℕ
 quoted_length mark text = prefix_len (λ b. not (b == mark || b == 10)) text
 
--- the mark occurs again on its line
+-- whether this quotation mark occurs in the text before any line feed
 abbrev pub is_closed : ℕ → List ℕ → Bool
 is_closed mark text = begins (λ b. b == mark) (drop (quoted_length mark text) text)
 
--- a piece is a label, whose length is bounded
+-- whether a piece is a label, and so has at most 63 bytes
 abbrev pub is_label : Piece → Bool
 is_label (Token Label) = true
 is_label piece = false
 
--- The quoted piece of `inner` bytes between its marks, of which the first `plain` are ASCII. It
--- must be closed on its line, a label must not be too long, and each byte must be ASCII.
+-- The quoted piece with `inner` bytes between its quotation marks, of which the first `plain` are
+-- ASCII. OpenQuote if it is not `closed` on its line, LongLabel if a label has over 63 of them,
+-- BadByte at the first of them that is not ASCII.
 abbrev pub quoted_of : Piece → Bool → ℕ → ℕ → Read
 quoted_of piece closed inner plain =
     if not closed then misread OpenQuote 0 else (if is_label piece && nat_lt longest_label inner then misread LongLabel 0 else (if nat_lt plain inner then misread BadByte (1 + plain) else lexeme piece (inner + 2)))
 
--- the quoted piece with which a text begins
+-- the quoted piece with which a text begins; its first byte is the quotation mark
 abbrev pub quoted : Piece → List ℕ → Read
 quoted piece [] = misread BadByte 0
 quoted piece (mark ∷ text) =
     let inner = quoted_length mark text in
     quoted_of piece (is_closed mark text) inner (prefix_len is_ascii (take inner text))
 
--- a token of code: a word, a number, a quoted token of this kind, or a symbol
+-- the token of code with which a text begins: a word, a number, a quoted token of this kind, or a
+-- symbol
 abbrev pub code_token : Kind → List ℕ → Read
 code_token kind text =
     if begins is_ascii_alphabetic text then bounded Word (prefix_len is_name_byte text) else (if begins_number text then lexeme (Token Number) (number_length text) else (if begins is_quote text then quoted (Token kind) text else symbol text))
 
--- a token of a list where an element is expected: a label, unquoted or quoted, or a symbol
+-- the token with which a text begins where an element of a list is expected: a label, unquoted or
+-- quoted, or a symbol
 abbrev pub label_token : List ℕ → Read
 label_token text =
     if begins is_ascii_alphanumeric text then bounded Label (prefix_len is_label_byte text) else (if begins is_quote text then quoted (Token Label) text else symbol text)
 
--- an unquoted descriptive text of `length` bytes
+-- an unquoted descriptive text of `length` bytes; BadByte if that is 0
 abbrev pub remark_of : ℕ → Read
 remark_of length = if length == 0 then misread BadByte 0 else lexeme Remark length
 
--- a descriptive text: a quoted one ends at its mark, another before `/`, `,`, `;` or the line's end
+-- the descriptive text with which a text begins: a quoted one ends at its mark, another before `/`,
+-- `,`, `;` or the line's end
 abbrev pub remark : List ℕ → Read
 remark text = if begins is_quote text then quoted Remark text else remark_of (prefix_len is_text_byte text)

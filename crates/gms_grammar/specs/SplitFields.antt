@@ -13,35 +13,39 @@ use Rattle.gms_grammar.specs.declared.split_fields.SplitState.TheVariants.{First
 abbrev pub is_dot : ℕ → Bool
 is_dot b = b == 46
 
--- a byte is one that a separator has
+-- whether a byte is this separator: a `;`, a blank (space or tab), or a dot
 abbrev pub is_separator : Separator → ℕ → Bool
 is_separator Semicolon b = b == 59
 is_separator Blank b = is_blank b
 is_separator Dot b = is_dot b
 
--- the state after a byte that is no quotation mark of a label: a label may begin after a blank and
--- after a dot
+-- the state after a byte outside labels in quotation marks: First, in which a label may begin,
+-- after a blank and after a dot, otherwise Inner
 abbrev pub state_after_plain : ℕ → SplitState
 state_after_plain b = if is_blank b || is_dot b then First else Inner
 
--- The state after a byte, which the rest of its text follows. A quotation mark begins a label where
--- one may begin, and only if the mark occurs again.
+-- The state after the byte b, read in the given state, if `rest` follows b. In the state First a
+-- quotation mark begins a label if the mark occurs again in `rest`; the state within the label is
+-- Marked.
 abbrev pub state_after_byte : SplitState → ℕ → List ℕ → SplitState
 state_after_byte First b rest = if is_quote b && list_any (λ c. c == b) rest then Marked b else state_after_plain b
 state_after_byte Inner b rest = state_after_plain b
 state_after_byte (Marked mark) b rest = if b == mark then Inner else Marked mark
 
--- a byte splits a text: it passes the test, and is outside labels in quotation marks
+-- whether the byte, read in this state, splits a text: it passes the test, and is outside labels in
+-- quotation marks
 abbrev pub parts : (ℕ → Bool) → SplitState → ℕ → Bool
 parts test First b = test b
 parts test Inner b = test b
 parts test (Marked mark) b = false
 
--- how many bytes come before the first that splits the text, beginning in this state
+-- how many bytes of a text, read from this state on, come before the first that passes the test
+-- outside labels in quotation marks; all if none does
 abbrev pub field_length : (ℕ → Bool) → SplitState → List ℕ → ℕ
 field_length test split_state [] = 0
 field_length test split_state (b ∷ rest) = if parts test split_state b then 0 else suc (field_length test (state_after_byte split_state b rest) rest)
 
--- how many bytes come before the first that splits the text, or all
+-- how many bytes of a text come before the first that passes the test outside labels in quotation
+-- marks; all if none does
 abbrev pub field_bytes : (ℕ → Bool) → List ℕ → ℕ
 field_bytes test text = field_length test First text

@@ -39,10 +39,11 @@ symbols =
     Power ∷ DotDot ∷ LessEq ∷ GreaterEq ∷ NotEq ∷ PlusPlus ∷ MinusMinus ∷
     Plus ∷ Minus ∷ Star ∷ Slash ∷ Equals ∷ Less ∷ Greater ∷ LeftParen ∷ RightParen ∷ Comma ∷ Semicolon ∷ Dot ∷ Dollar ∷ []
 
--- a text begins with these bytes, letter case ignored
+-- whether a text begins with these bytes, letter case ignored
 abbrev pub begins_with_word : List ℕ → List ℕ → Bool
 begins_with_word text prefix = nat_le (length prefix) (length text) && str_eq_ignore_ascii_case (take (length prefix) text) prefix
 
--- the longest symbol with which a text begins, and how many bytes it takes
+-- the longest symbol with which a text begins, and how many bytes it takes; None if it begins with
+-- no symbol
 unfoldable pub longest_symbol : List ℕ → Option (ℕ × Sym)
 longest_symbol text = option_map (λ symbol. (length (written_symbol symbol), symbol)) (find (λ symbol. begins_with_word text (written_symbol symbol)) symbols)

@@ -10,14 +10,16 @@ use Rattle.gms_grammar.specs.SplitFields.{is_separator, field_bytes}
 use Rattle.gms_grammar.specs.Bytes.{is_ascii}
 use Rattle.gms_grammar.specs.Shapes.{Read, lexeme, misread}
 
--- how many bytes of a line belong to the table: up to a `;` outside quoted labels, or all
+-- how many bytes of a line belong to the table: those before the first `;` outside quoted labels,
+-- or all
 abbrev pub table_bytes : List ℕ → ℕ
 table_bytes line = field_bytes (is_separator Semicolon) line
 
--- `length` bytes of a line of a table, of which the first `plain` are ASCII
+-- the token of `length` bytes of a table's line, of which the first `plain` are ASCII; BadByte at
+-- the first that is not
 abbrev pub table_line_of : ℕ → ℕ → Read
 table_line_of length plain = if nat_lt plain length then misread BadByte plain else lexeme (Token TableLine) length
 
--- the token of `length` bytes of a line of a table
+-- the token of the first `length` bytes of a table's line; BadByte at the first that is not ASCII
 abbrev pub table_line : ℕ → List ℕ → Read
 table_line length line = table_line_of length (prefix_len is_ascii (take length line))

@@ -4,7 +4,7 @@ use Rattle.std.specs.List.{list_any}
 use Rattle.gms_grammar.specs.declared.terminal.Terminal.{Terminal}
 use Rattle.gms_grammar.specs.declared.terminal.Terminal.TheVariants.{Abort, Alias, Display, Equation, Loop, Model, Option, Parameter, Scalar, Set, Solve, Table, Variable, VariableType, Name, Suffix, Function, OrdCard, FoldOp, Infinity, NotAvailable, YesNo, Not, And, Or, RelationWord, All, Using, Direction, Reserved, Label, Number, Text, LongText, Sense, Power, DotDot, Relation, Circular, Sign, Star, Slash, Equals, LeftParen, RightParen, Comma, Semicolon, Dot, Dollar, Break, TableLine, End, NotInProfile, FaultyNumber, DeepParen}
 
--- the number of a kind
+-- the number of a kind of tokens
 abbrev pub terminal_number : Terminal → ℕ
 terminal_number Abort = 0
 terminal_number Alias = 1
@@ -62,7 +62,7 @@ terminal_number NotInProfile = 52
 terminal_number FaultyNumber = 53
 terminal_number DeepParen = 54
 
--- all kinds, in the order of their numbers
+-- all kinds of tokens, in the order of their numbers
 abbrev pub terminals : List Terminal
 terminals =
     Abort ∷ Alias ∷ Display ∷ Equation ∷ Loop ∷ Model ∷ Option ∷ Parameter ∷
@@ -73,10 +73,10 @@ terminals =
     Star ∷ Slash ∷ Equals ∷ LeftParen ∷ RightParen ∷ Comma ∷ Semicolon ∷ Dot ∷
     Dollar ∷ Break ∷ TableLine ∷ End ∷ NotInProfile ∷ FaultyNumber ∷ DeepParen ∷ []
 
--- two kinds are the same
+-- whether two kinds of tokens are the same
 abbrev pub is : Terminal → Terminal → Bool
 is kind other = terminal_number kind == terminal_number other
 
--- a kind is among some
+-- whether a kind of tokens is one of these
 abbrev pub is_terminal_among : List Terminal → Terminal → Bool
 is_terminal_among kinds kind = list_any (is kind) kinds

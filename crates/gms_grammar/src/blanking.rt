@@ -9,15 +9,15 @@ use crate::line::{Class, class_of, inside_after, split_line};
 use crate::line_faults::first_in_line;
 use std::alloc::{AllocError, Global};
 
-/// A source without its comments and control lines.
+/// A source without the texts of its comments and control lines, from which tokens are read.
 #[derive(Drop)]
 pub struct CodeText {
-    /// The source with blanks in place of each comment and control line. Each byte keeps its
-    /// position in the source.
+    /// The source with blanks in place of each comment line and each control line, a line with `$`
+    /// in column 1. Each byte keeps its position in the source.
     pub text: Vec<u8>,
-    /// The first lexical error of a line: a control character other than tab, a byte above 127 in a
-    /// control line, an `$ontext` that is not ended, a line of over 32,768 bytes, or a control word
-    /// that is not accepted.
+    /// The first lexical error in the lines of the source: a control character other than tab, a
+    /// byte above 127 in a control line, an `$ontext` that is not ended, a line of over 32,768
+    /// bytes, or a control word that is not accepted. `None` if the lines have no such error.
     pub fault: Option<ByteFault>,
 }
 
@@ -54,9 +54,9 @@ fn append_line(code: &mut Vec<u8>, class: Class, line: &[u8]) -> Result<(), Allo
 /// The text of a source from which tokens are read, and the first lexical error of its lines (GAMS
 /// User's Guide, "Language Items" and "Dollar Control Options").
 ///
-/// A line with `*` in column 1 is comment. So are the lines after `$ontext`, up to and including
+/// A line with `*` in column 1 is a comment. So are the lines after `$ontext`, up to and including
 /// the one that begins with `$offtext`. A line with `$` in column 1 is a control line. The only
-/// error is out of memory.
+/// error of the call is out of memory.
 pub fn code_text(alloc: Global, source: &[u8]) -> Result<CodeText, AllocError>
     ensures text { IfOk result (λ code. code.text.items ≡ code_text source.now) }
     ensures as_long { IfOk result (λ code. length code.text.items ≡ length source.now) }

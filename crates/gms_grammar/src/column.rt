@@ -2,7 +2,9 @@
 ghost use Rattle.std.specs.Prelude.{◌≡◌, ◌<◌, ◌+◌, ◌^◌};
 ghost use Rattle.gms_grammar.specs.Columns.{column_after};
 
-/// The column after a byte; a tab goes to the next column that is one more than a multiple of 8.
+/// The column, counted from 1, of what follows a byte at `column`. After a tab it is the next
+/// column whose number is one more than a multiple of 8; after any other byte it is the next
+/// column.
 pub fn column_after(column: u32, byte: u8) -> u32
     requires { column + 8 < 2 ^ 32 }
     ensures { result ≡ column_after column byte }

@@ -58,12 +58,12 @@ impl LexError {
     }
 }
 
-/// A lexical error and the byte of the source at which it occurs, counted from 0.
+/// A lexical error, and the byte of the source at which it occurs.
 #[derive(Clone, Copy, Debug, Error)]
 #[error("byte {at}: {code} {name}: {error}", code = .error.code(), name = .error.name())]
 pub struct ByteFault {
-    /// How many bytes precede it.
+    /// The byte at which the error occurs, counted from 0 at the start of the source.
     pub at: usize,
-    /// The error.
+    /// The lexical error, by its cause.
     pub error: LexError,
 }

@@ -73,8 +73,8 @@ const KEYWORDS: [Keyword; 14] = [
     },
 ];
 
-/// The statement that a word begins, in capital or small letters (GAMS User's Guide, "Language
-/// Items", reserved words). `None` if it begins none.
+/// The kind of the token `word`, if it is a keyword that begins a statement, letter case ignored
+/// (GAMS User's Guide, "Language Items", reserved words). `None` for any other word.
 pub fn statement_word(word: &[u8]) -> Option<Terminal>
     ensures { result ≡ kind_among word.now statement_words }
 {

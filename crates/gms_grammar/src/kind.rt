@@ -2,7 +2,7 @@
 ghost use Rattle.std.specs.Prelude.{◌≡◌};
 ghost use Rattle.gms_grammar.specs.Symbols.{written_symbol};
 
-/// A symbol of the language (GAMS User's Guide, "Language Items").
+/// An operator or a delimiter of the language (GAMS User's Guide, "Language Items").
 #[derive(Clone, Copy)]
 pub enum Sym {
     /// `=e=`
@@ -56,7 +56,7 @@ pub enum Sym {
 }
 
 impl Sym {
-    /// How this symbol is written.
+    /// The characters of this symbol, as a source has them.
     pub fn written(self) -> &'static str
         ensures { result.now ≡ written_symbol self }
     {
@@ -89,16 +89,16 @@ impl Sym {
     }
 }
 
-/// What a token is.
+/// The kind of a token by its form. Names and keywords are both words here.
 #[derive(Clone, Copy)]
 pub enum Kind {
     /// A name or a keyword: a letter, then letters, digits and `_`.
     Word,
-    /// A label of a list: unquoted, or quoted with its marks.
+    /// A label of a list: unquoted, or with its quotation marks.
     Label,
     /// A number.
     Number,
-    /// A quoted token of code with its marks.
+    /// A quoted token of code, with its quotation marks.
     Text,
     /// A symbol.
     Symbol(Sym),

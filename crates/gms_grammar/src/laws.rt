@@ -7,10 +7,11 @@ ghost use Rattle.gms_grammar.specs.GamsGrammar.{Nonterminal, Program, NamedState
 ghost use Rattle.gms_grammar.specs.PlainGrammar.{plain_program, plain_named, plain_body, plain_items};
 ghost use Rattle.gms_grammar.specs.GamsLookAhead.{look_ahead};
 
-/// What a nonterminal derives, and where tokens cease to begin it.
+/// Each list of tokens has at most one derivation tree, and at most one first unexpected token.
 ///
-/// Its derivation of a list of tokens is unique. Each list of tokens has exactly one longest prefix
-/// that begins something it derives, so at most one token of the list is the first unexpected one.
+/// `one_tree`: a nonterminal derives a list of tokens by at most one tree. `stops` and
+/// `stops_once`: each list of tokens has exactly one longest prefix that begins something the
+/// nonterminal derives. The token after this prefix, if any, is the first unexpected one.
 pub fn derivation_laws<D>()
     ensures one_tree { (n : Nonterminal) (one other : DerivationTree (Terminal × D)) →
         IsTree productions (the n) one → IsTree productions (the n) other → yield one ≡ yield other → one ≡ other }
@@ -20,13 +21,16 @@ pub fn derivation_laws<D>()
         Stops productions (the n) tokens prefix rest → Stops productions (the n) tokens other following → prefix ≡ other }
 {}
 
-/// What a reader by the table finds, which goes by one token and takes no step back.
+/// What a predictive reader finds in a list of tokens. It decides by one token, and never goes
+/// back.
 ///
-/// It finds something in each list of tokens. If that is a tree, it is one of the nonterminal, and
-/// its tokens are the longest prefix that begins something the nonterminal derives. If the reader
-/// is stuck, the tokens read are the longest such prefix and are nothing complete: the next token
-/// is the first unexpected one. In the tokens of a tree it finds that tree. The tokens read so far,
-/// wherever the reader is, begin something that the nonterminal derives.
+/// `finds`: the reader finds something in each list of tokens: a tree, or it is stuck. `tree` and
+/// `longest`: a tree that it finds is one of the nonterminal, and the tokens of the tree are the
+/// longest prefix that begins something the nonterminal derives. `unexpected` and `unfinished`: if
+/// the reader is stuck, the tokens that it has read are the longest such prefix, and the
+/// nonterminal does not derive them, so the next token is the first unexpected one. `complete`:
+/// from the tokens of a tree of the nonterminal the reader reads that tree. `gone_over`: at any
+/// time, the tokens read so far begin something that the nonterminal derives.
 pub fn reading_laws<D>()
     ensures finds { (n : Nonterminal) (tokens : List (Terminal × D)) →
         (found : Found (Terminal × D)) × Reads productions look_ahead (the n) tokens found }
@@ -44,8 +48,8 @@ pub fn reading_laws<D>()
         Takes productions look_ahead (the n) tokens prefix rest → (tokens ≡ prefix ++ rest) × Begins productions (the n) prefix }
 {}
 
-/// If the table has a production in another form than the one that reads best, so that one token
-/// decides it, both forms derive the same tokens.
+/// Some productions are written so that a reader can decide by one token, and each of them has
+/// another form that is easier to read. Both forms derive the same tokens.
 pub fn plain_laws<D>()
     ensures program { (tokens : List (Terminal × D)) →
         Derives productions (the Program) tokens ↔ Derives productions plain_program tokens }

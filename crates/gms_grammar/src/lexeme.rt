@@ -2,7 +2,7 @@
 use crate::fault::LexError;
 use crate::kind::Kind;
 
-/// A kind of piece at the start of a text.
+/// The kind of a piece of a source: blanks, line ends, a descriptive text or a token.
 #[derive(Clone, Copy)]
 pub enum Piece {
     /// Blanks.
@@ -15,20 +15,20 @@ pub enum Piece {
     Token(Kind),
 }
 
-/// The piece at the start of a text, and how many bytes it takes.
+/// The piece with which a text begins: its kind, and how many bytes it has.
 #[derive(Clone, Copy)]
 pub struct Lexeme {
-    /// What it is.
+    /// The kind of the piece with which the text begins.
     pub piece: Piece,
-    /// How many bytes it takes.
+    /// How many bytes the piece has, from the start of the text on.
     pub length: usize,
 }
 
-/// Why a text begins with no piece.
+/// Why no piece can be read at the start of a text, and where the error is.
 #[derive(Clone, Copy)]
 pub struct Misread {
-    /// The error.
+    /// The lexical error because of which no piece can be read.
     pub error: LexError,
-    /// How many bytes of the text precede it.
+    /// How many bytes of the text precede the error.
     pub ahead: usize,
 }

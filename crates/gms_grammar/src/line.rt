@@ -5,12 +5,12 @@ ghost use Rattle.std.specs.Str.{str_eq_ignore_ascii_case};
 ghost use Rattle.std.specs.List.{prefix_len, list_any};
 ghost use Rattle.gms_grammar.specs.ControlWords.{control_words, is_word_among};
 
-/// What a line is.
+/// What a line is: a comment, a control line or code.
 #[derive(Clone, Copy)]
 pub enum Class {
-    /// It begins with `*`, or is inside a block of comment.
+    /// A line that begins with `*`, or is inside a block of comment.
     Comment,
-    /// It begins with `$`.
+    /// A line that begins with `$`.
     Control,
     /// Any other line.
     Code,
@@ -73,7 +73,7 @@ pub fn is_line_end(text: &[u8]) -> bool
     matches!(text, [b'\n', ..] | [b'\r', b'\n', ..])
 }
 
-/// How many bytes of a text come before its first line end.
+/// How many bytes of a text come before its first line end; all bytes, if there is no line end.
 pub fn content_length(text: &[u8]) -> usize
     ensures value { result ≡ before is_line_end text.now }
     ensures within { result ≤ length text.now }
@@ -162,7 +162,7 @@ pub(crate) fn inside_after(inside: bool, line: &[u8]) -> bool
     }
 }
 
-/// Whether a word is among these, letter case ignored.
+/// Whether a word equals one of `words`, letter case ignored.
 pub fn is_among(word: &[u8], words: &[&str]) -> bool
     ensures { result ≡ list_any (λ other. str_eq_ignore_ascii_case word.now other.now) words.now }
 {

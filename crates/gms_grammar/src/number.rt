@@ -50,7 +50,8 @@ fn sign_length(rest: &[u8]) -> usize
     }
 }
 
-/// How many bytes an exponent takes: `e`, an optional sign and at least one digit.
+/// How many bytes an exponent takes: `e`, an optional sign and at least one digit; 0 if the text
+/// does not begin with an exponent.
 fn exponent_length(rest: &[u8]) -> usize
     ensures value { result ≡ exponent_length rest.now }
     ensures within { result ≤ length rest.now }

@@ -36,7 +36,8 @@ fn is_label_byte(byte: u8) -> bool
     byte.is_ascii_alphanumeric() || matches!(byte, b'+' | b'-' | b'_')
 }
 
-/// How many bytes of labels a text begins with.
+/// The length in bytes of the longest prefix of a text that consists of letters, digits, `+`, `-`
+/// and `_`, the bytes of an unquoted label.
 pub fn label_length(text: &[u8]) -> usize
     ensures value { result ≡ prefix_len is_label_byte text.now }
     ensures within { result ≤ length text.now }
@@ -102,7 +103,8 @@ fn bounded(kind: Kind, length: usize) -> Result<Lexeme, Misread>
     })
 }
 
-/// The longest symbol with which a text begins. `BadByte` comes where it begins with none.
+/// The longest symbol with which a text begins. The error `BadByte` comes if the text begins with
+/// no symbol.
 pub fn read_symbol(text: &[u8]) -> Result<Lexeme, Misread>
     ensures { result ≡ symbol text.now }
 {
@@ -175,12 +177,12 @@ fn quoted(piece: Piece, text: &[u8]) -> Result<Lexeme, Misread>
     quoted_of(piece, is_closed(*mark, rest), inner, plain)
 }
 
-/// The token of code with which a text begins: a word, a number, a quoted token of this kind, or a
-/// symbol.
+/// The token of code with which a text begins: a word, a number, a quoted token, or a symbol.
+/// `kind` is the kind that a quoted token gets: a label, or a text.
 ///
-/// `BadByte` at a character that begins no token, and at one above 127 in a quoted token;
-/// `OpenQuote` at a mark that does not occur again on its line; `LongLabel` at a word of over 63
-/// bytes, and at a quoted label of that length.
+/// The errors are `BadByte` at a character that begins no token, and at a byte above 127 in a
+/// quoted token; `OpenQuote` at a quotation mark that does not occur again on its line; and
+/// `LongLabel` at a word of over 63 bytes, and at a quoted label of over 63 bytes.
 pub fn code_token(kind: Kind, text: &[u8]) -> Result<Lexeme, Misread>
     ensures { result ≡ code_token kind text.now }
 {
@@ -199,12 +201,12 @@ pub fn code_token(kind: Kind, text: &[u8]) -> Result<Lexeme, Misread>
     read_symbol(text)
 }
 
-/// The token of a list with which a text begins where an element is expected: a label, unquoted or
+/// The token with which a text begins where an element of a list is expected: a label, unquoted or
 /// quoted, or a symbol.
 ///
-/// `BadByte` at a character that begins no token, and at one above 127 in a quoted label;
-/// `OpenQuote` at a mark that does not occur again on its line; `LongLabel` at a label of over 63
-/// bytes.
+/// The errors are `BadByte` at a character that begins no token, and at a byte above 127 in a
+/// quoted label; `OpenQuote` at a quotation mark that does not occur again on its line; and
+/// `LongLabel` at a label of over 63 bytes.
 pub fn label_token(text: &[u8]) -> Result<Lexeme, Misread>
     ensures { result ≡ label_token text.now }
 {
@@ -217,11 +219,11 @@ pub fn label_token(text: &[u8]) -> Result<Lexeme, Misread>
     read_symbol(text)
 }
 
-/// The descriptive text with which a text begins: a quoted one ends at its mark, another before
-/// `/`, `,`, `;` or the line's end.
+/// The descriptive text with which a text begins. A quoted one ends with its second quotation mark;
+/// an unquoted one ends before the first `/`, `,` or `;`, or at the end of the line.
 ///
-/// `OpenQuote` at a mark that does not occur again on its line; `BadByte` at a byte above 127 in a
-/// quoted text, and if an unquoted text would be empty.
+/// The errors are `OpenQuote` at a quotation mark that does not occur again on its line, and
+/// `BadByte` at a byte above 127 in a quoted text, and where an unquoted text would be empty.
 pub fn remark(text: &[u8]) -> Result<Lexeme, Misread>
     ensures { result ≡ remark text.now }
 {

@@ -7,7 +7,7 @@ ghost use Rattle.gms_grammar.specs.SplitFields.{is_separator, state_after_byte, 
 
 use crate::line::is_blank;
 
-/// What parts a text.
+/// The separator at which a text is split into fields.
 #[derive(Clone, Copy)]
 pub enum Separator {
     /// A semicolon, after a table.
@@ -79,8 +79,9 @@ impl SplitState {
     }
 }
 
-/// How many bytes of a text come before the first that splits it, or all. A label in quotation
-/// marks is not split if it begins the text or follows a blank or a dot.
+/// How many bytes of a text come before the first occurrence of the separator; all bytes, if the
+/// separator does not occur. An occurrence in a label in quotation marks does not count. Such a
+/// label begins the text, or follows a blank or a dot.
 pub fn field_length(separator: Separator, text: &[u8]) -> usize
     ensures value { result ≡ field_bytes (is_separator separator) text.now }
     ensures within { result ≤ length text.now }

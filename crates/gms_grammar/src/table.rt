@@ -8,7 +8,8 @@ use crate::lexeme::{Lexeme, Misread, Piece};
 use crate::shape::plain_length;
 use crate::split_fields::{Separator, field_length};
 
-/// How many bytes of a line belong to the table: up to a `;` outside quoted labels, or all.
+/// How many bytes of a table's line belong to the table: those before the first `;` outside quoted
+/// labels, or all bytes if there is no such `;`.
 pub fn table_bytes(line: &[u8]) -> usize
     ensures value { result ≡ table_bytes line.now }
     ensures within { result ≤ length line.now }
@@ -16,7 +17,8 @@ pub fn table_bytes(line: &[u8]) -> usize
     field_length(Separator::Semicolon, line)
 }
 
-/// The token of `bytes` bytes of a table's line. `BadByte` at the first byte above 127.
+/// The token that consists of the first `bytes` bytes of a table's line. The error is `BadByte`, at
+/// the first of these bytes that is above 127.
 pub fn table_line(bytes: usize, line: &[u8]) -> Result<Lexeme, Misread>
     requires { bytes ≤ length line.now }
     ensures { result ≡ table_line bytes line.now }

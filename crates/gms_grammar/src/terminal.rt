@@ -2,8 +2,8 @@
 ghost use Rattle.std.specs.Prelude.{◌≡◌};
 ghost use Rattle.gms_grammar.specs.Terminals.{is, is_terminal_among};
 
-/// A kind of tokens, as productions name it (GAMS User's Guide, "Language Items", reserved words
-/// and delimiters).
+/// A kind of token, as the productions of the grammar name it (GAMS User's Guide, "Language Items",
+/// reserved words and delimiters).
 #[derive(Clone, Copy, PartialEq, Eq)]
 pub enum Terminal {
     /// `abort`.
@@ -122,14 +122,14 @@ pub enum Terminal {
 }
 
 impl Terminal {
-    /// Whether two kinds are the same.
+    /// Whether this kind of token is the kind `other`.
     pub fn is(self, other: Terminal) -> bool
         ensures { result ≡ is self other }
     {
         self == other
     }
 
-    /// Whether a kind is among some.
+    /// Whether this kind of token is one of `kinds`.
     pub fn is_among(self, kinds: &[Terminal]) -> bool
         ensures { result ≡ is_terminal_among kinds.now self }
     {

@@ -215,32 +215,35 @@ use Rattle.gms_grammar.specs.LookAhead.{{LookAhead}}
 use Rattle.gms_grammar.specs.Terminals.{{is_terminal_among}}
 use Rattle.gms_grammar.specs.GamsGrammar.{{Nonterminal, {', '.join(names)}}}
 
--- the kinds of tokens that may come first in a nonterminal
+-- the kinds of tokens with which a nonterminal can begin
 abbrev pub firsts : Nonterminal → List Terminal""")
 for n in names:
     print(f"firsts {n} = {written(first[n])}")
 print("""
--- the kinds of tokens that may follow a nonterminal in a program
+-- the kinds of tokens that can follow a nonterminal in a program
 abbrev pub follows : Nonterminal → List Terminal""")
 for n in names:
     print(f"follows {n} = {written(follow[n])}")
 print("""
--- whether a nonterminal may be empty
+-- whether a nonterminal derives the empty list of tokens
 abbrev pub is_empty : Nonterminal → Bool""")
 for n in empties:
     print(f"is_empty {n} = true")
 print("""is_empty _ = false
 
--- a number above those of the nonterminals in a least tree of a nonterminal
+-- a depth of each nonterminal: some derivation tree of it has, below its root, only nonterminals of
+-- less depth, so each nonterminal derives something
 abbrev pub least_depth : Nonterminal → ℕ""")
 for n in names:
     print(f"least_depth {n} = {depth[n]}")
 print("""
--- a number above those of the nonterminals that may come first in a nonterminal
+-- a rank of each nonterminal: those with which it can begin have a lower rank, so no nonterminal
+-- begins with itself
 abbrev pub leading_rank : Nonterminal → ℕ""")
 for n in names:
     print(f"leading_rank {n} = {rank[n]}")
 print("""
--- what one token tells
+-- the tables above in one record: what is known of each nonterminal, so that one token of
+-- look-ahead decides how to continue
 abbrev pub look_ahead : LookAhead Terminal Nonterminal
 look_ahead = record { first = λ n. is_terminal_among (firsts n); follow = λ n. is_terminal_among (follows n); empty = is_empty; depth = least_depth; rank = leading_rank }""")

@@ -1,4 +1,4 @@
--- A host of files in memory: its view, and what each of its calls does to it.
+-- A host over files in memory: its view, and the effect of each of its calls.
 use Rattle.std.specs.Prelude.{ℕ, Bool, true, false, List, [], ◌∷◌, ◌++◌, length, ◌==◌, map, take, drop, unwrap_or, min, Option, Some, None, Result, Ok, Err, String, Vec, string_bytes, Contains, refl}
 use Rattle.std.specs.declared.alloc.Global.{Global}
 use Rattle.std.specs.Coded.{Coded, code_by, coded×, coded_ℕ, coded_bool, coded_list, coded_option}
@@ -8,42 +8,42 @@ use Rattle.gms_host.specs.declared.host.Failed.TheVariants.{Fault, Memory}
 use Rattle.gms_host.specs.Meaning.{Meaning, Files}
 use Rattle.gms_host.specs.Counts.{one_more}
 
--- The view of such a host.
+-- The view of a host over files in memory.
 pub record MemoryState : Type 0 where
-  -- its files
+  -- the files
   pub files : Files
-  -- the numbers of the calls that are to fail
+  -- the numbers of the calls that are to fail, from 0
   pub failing : List ℕ
-  -- how many bytes a call reads, writes or prints at most, if there is a bound
+  -- how many bytes one call reads, writes or prints at most; None if there is no bound
   pub most : Option ℕ
-  -- the number of the next call
+  -- the number of the next call, from 0
   pub calls : ℕ
-  -- what the opened input still gives
+  -- the bytes of the opened input that are not yet read
   pub input : List ℕ
   -- the name of the output that was opened last
   pub named : List ℕ
   -- the bytes of that output so far
   pub output : List ℕ
-  -- the bytes of standard output so far
+  -- the bytes that were printed on standard output so far
   pub said : List ℕ
-  -- the names of the files that were opened so far, in order
+  -- the names with which files were opened so far, in order
   pub asked : List (List ℕ)
-  -- the names and the bytes of the outputs that were closed so far, in order
+  -- the name and the bytes of each output that was closed so far, in order
   pub kept : List (List ℕ × List ℕ)
-  -- an input is open
+  -- whether an input is open
   pub reading : Bool
-  -- an output is open
+  -- whether an output is open
   pub writing : Bool
-  -- how many faults of reading there were
+  -- how many faults of reading were counted
   pub read_faults : ℕ
-  -- how many faults of writing there were
+  -- how many faults of writing were counted
   pub write_faults : ℕ
 
--- the code of a list of bytes
+-- the encoding (`Coded`) of a list of bytes, by that of numbers
 abbrev pub bytes_code : Coded (List ℕ)
 bytes_code = coded_list coded_ℕ
 
--- a state is stored as its fields, in pairs
+-- the encoding (`Coded`) of a state, by that of nested pairs of its fields
 abbrev pub memory_code : Coded MemoryState
 memory_code =
     code_by (Files × (List ℕ × (Option ℕ × (ℕ × (List ℕ × (List ℕ × (List ℕ × (List ℕ × (List (List ℕ) × (List (List ℕ × List ℕ) × (Bool × (Bool × (ℕ × ℕ)))))))))))))
@@ -68,15 +68,15 @@ memory_code =
     })
     (λ _. refl)
 
--- a file as a pair of its name and its bytes
+-- a file as its name and its bytes
 abbrev pub file_of : String Global × Vec ℕ Global → List ℕ × List ℕ
 file_of file = (string_bytes file.0, file.1.items)
 
--- the files of a list of names and bytes; the first counts if several have one name
+-- the files of a list; of several with one name the first counts
 abbrev pub files_of : List (String Global × Vec ℕ Global) → Files
 files_of files = finite.from_entries (map file_of files)
 
--- a host of these files, of which no call was made
+-- a host over these files before any call, whose calls with the numbers `failing` are to fail
 abbrev pub at_start : Files → List ℕ → MemoryState
 at_start files failing = record {
   files = files;
@@ -95,16 +95,16 @@ at_start files failing = record {
   write_faults = 0;
 }
 
--- the same host, where each call reads, writes or prints at most `most` bytes
+-- the host m, of which each call reads, writes or prints at most `most` bytes
 abbrev pub in_pieces_of : ℕ → MemoryState → MemoryState
 in_pieces_of most m = record m { most = Some most }
 
--- how many of `count` bytes go in one call
+-- how many of `count` bytes one call reads, writes or prints
 abbrev pub piece : MemoryState → ℕ → ℕ
 piece m count = elim m.most [ None ↦ count | Some most ↦ min count most ]
 
--- a host of files in memory exposes all, counts precisely, and is reliable exactly where no call is
--- to fail
+-- what a host over files in memory exposes: all of its state; it counts faults precisely, and it is
+-- reliable exactly if no call is to fail
 abbrev pub memory_meaning : MemoryState → Meaning
 memory_meaning m = record {
   outside = record {
@@ -126,60 +126,62 @@ memory_meaning m = record {
   };
 }
 
--- the next call is among those that are to fail
+-- the next call of the host is to fail
 abbrev pub IsToFail : MemoryState → Type 0
 IsToFail m = Contains m.failing m.calls
 
--- one call was numbered, and nothing else happened
+-- the host after the number of the next call rose by one; the greatest number of 64 bits stays
 abbrev pub with_call_numbered : MemoryState → MemoryState
 with_call_numbered m = record m { calls = one_more m.calls }
 
--- a fault of reading was counted, and nothing else happened
+-- the host after a fault of reading was counted; a count at the greatest number of 64 bits stays
 abbrev pub with_read_fault : MemoryState → MemoryState
 with_read_fault m = record m { read_faults = one_more m.read_faults }
 
--- a fault of writing was counted, and nothing else happened
+-- the host after a fault of writing was counted; a count at the greatest number of 64 bits stays
 abbrev pub with_write_fault : MemoryState → MemoryState
 with_write_fault m = record m { write_faults = one_more m.write_faults }
 
--- what an `open_in` of that name leaves, by its answer
+-- the host after an `open_in` of this name with this answer: on success the file's bytes are the
+-- input, which is open, and the name is noted; else no input is open
 abbrev pub after_open_in : MemoryState → List ℕ → Result (Unit {0}) Failed → MemoryState
 after_open_in m name (Ok _) = record (with_call_numbered m) { input = unwrap_or (finite.get m.files name) []; asked = m.asked ++ name ∷ []; reading = true }
 after_open_in m name (Err Fault) = record (with_read_fault (with_call_numbered m)) { reading = false }
 after_open_in m name (Err Memory) = record (with_call_numbered m) { reading = false }
 
--- what a `read` leaves, by its answer: the bytes that it gave are off the input
+-- the host after a `read` with this answer: the bytes that were read are removed from the input
 abbrev pub after_read : MemoryState → Result ℕ Failed → MemoryState
 after_read m (Ok count) = record (with_call_numbered m) { input = drop count m.input }
 after_read m (Err Fault) = with_read_fault (with_call_numbered m)
 after_read m (Err Memory) = with_call_numbered m
 
--- the output is empty and not open
+-- the host after its output became empty and was closed
 abbrev pub with_empty_output : MemoryState → MemoryState
 with_empty_output m = record m { output = []; writing = false }
 
--- what an `open_out` of that name leaves, by its answer: an empty output, which is open if it
--- succeeded
+-- the host after an `open_out` of this name with this answer: the output is empty; on success it
+-- has the name, which is noted, and is open, else none is open
 abbrev pub after_open_out : MemoryState → List ℕ → Result (Unit {0}) Failed → MemoryState
 after_open_out m name (Ok _) = record (with_call_numbered m) { named = name; output = []; asked = m.asked ++ name ∷ []; writing = true }
 after_open_out m name (Err Fault) = with_empty_output (with_write_fault (with_call_numbered m))
 after_open_out m name (Err Memory) = with_empty_output (with_call_numbered m)
 
--- what a `write` of these bytes leaves, by its answer: the counted number of bytes is added to the
--- output
+-- the host after a `write` of these bytes with this answer: on success the first `count` of them
+-- are appended to the output
 abbrev pub after_write : MemoryState → List ℕ → Result ℕ Failed → MemoryState
 after_write m bytes (Ok count) = record (with_call_numbered m) { output = m.output ++ take count bytes }
 after_write m bytes (Err Fault) = with_write_fault (with_call_numbered m)
 after_write m bytes (Err Memory) = with_call_numbered m
 
--- what a `close_out` leaves, by its answer: no output is open, and the one that was is kept
+-- the host after a `close_out` with this answer: no output is open; on success the one that was
+-- open is recorded with its name
 abbrev pub after_close_out : MemoryState → Result (Unit {0}) Failed → MemoryState
 after_close_out m (Ok _) = record (with_call_numbered m) { kept = m.kept ++ (m.named, m.output) ∷ []; writing = false }
 after_close_out m (Err Fault) = record (with_write_fault (with_call_numbered m)) { writing = false }
 after_close_out m (Err Memory) = record (with_call_numbered m) { writing = false }
 
--- what a `say` of these bytes leaves, by its answer: the counted number of bytes is added to
--- standard output
+-- the host after a `say` of these bytes with this answer: on success the first `count` of them are
+-- appended to standard output
 abbrev pub after_say : MemoryState → List ℕ → Result ℕ Failed → MemoryState
 after_say m bytes (Ok count) = record (with_call_numbered m) { said = m.said ++ take count bytes }
 after_say m bytes (Err Fault) = with_write_fault (with_call_numbered m)

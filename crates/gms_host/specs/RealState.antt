@@ -1,19 +1,19 @@
--- A host over real files and standard output: its view.
+-- The view of a host over real files and standard output.
 use Rattle.std.specs.Prelude.{ℕ, Bool, false, None}
 use Rattle.gms_host.specs.Meaning.{Meaning}
 
--- The view of such a host.
+-- The view of a host over real files and standard output.
 pub record RealState : Type 0 where
-  -- an input is open
+  -- whether an input is open
   pub reading : Bool
-  -- an output is open
+  -- whether an output is open
   pub writing : Bool
-  -- how many faults of reading there were
+  -- how many faults of reading were counted
   pub read_faults : ℕ
-  -- how many faults of writing there were
+  -- how many faults of writing were counted
   pub write_faults : ℕ
 
--- nothing is open, and nothing has failed
+-- a host before any call: nothing is open, and no fault is counted
 abbrev pub untouched : RealState
 untouched = record {
   reading = false;
@@ -22,8 +22,8 @@ untouched = record {
   write_faults = 0;
 }
 
--- such a host exposes no files, no names and no bytes; any call can fail, and one that succeeds can
--- count a fault
+-- what a host over real files exposes: no files, no names and no bytes; it is not reliable, so any
+-- call may fail, and not precise, so a call that succeeds may count a fault
 abbrev pub real_meaning : RealState → Meaning
 real_meaning r = record {
   outside = record {

@@ -1,4 +1,4 @@
-//! What a host is: its six calls, and the rules that they keep.
+//! A host: its six calls, and the rules that they obey.
 ghost use Rattle.std.specs.Prelude.{◌≡◌, ◌<◌, ◌≤◌, true, length, IfOk};
 ghost use Rattle.gms_host.specs.declared.host.Failed.TheVariants.{Memory};
 ghost use Rattle.gms_host.specs.Meaning.{Meaning};
@@ -10,7 +10,7 @@ use thiserror::Error;
 /// Why a call of a host did not do its work.
 #[derive(Clone, Copy, Debug, PartialEq, Eq, Error)]
 pub enum Failed {
-    /// An input or output operation failed: the count of faults of that kind rose in the call.
+    /// An input or output operation failed. The count of faults of that kind rose in the call.
     #[error("an input or output operation failed")]
     Fault,
     /// Out of memory. No count of faults rose.
@@ -34,31 +34,33 @@ impl<T: Drop> From<AllocFailed<T>> for Failed {
     }
 }
 
-/// The outside: named files, of which one can be read and one written at a time, and standard
-/// output.
+/// The outside of the program: named files, of which one can be read and one written at a time, and
+/// standard output.
 ///
-/// What a host exposes is its `Meaning`: its outside state, and the counts of faults. Which parts
-/// it exposes never changes. Each call has one clause on what it does to the outside state, by its
-/// answer, and the same two on the counts: a fault is answered only where the count of that kind
-/// rose in the call, and no call changes the other count; out of memory raises none.
+/// What a host exposes is its `Meaning`: its outside state, and two counts of faults, one of
+/// reading and one of writing. Which fields it exposes never changes. Each call has one clause on
+/// its effect on the outside state, by its result, and two on the counts. A call that reads changes
+/// the count of reading alone, and a call that writes that of writing alone. A call returns a fault
+/// only if the count that it may change rose in the call. A call that runs out of memory changes no
+/// count.
 ///
 /// A host may promise, for good, that it is reliable: then no call fails by itself. The only fault
 /// is an `open_in` of a name that no file has, if the host exposes its files, and no other call
 /// counts a fault. Memory may run out all the same. A host may also promise that it is precise: a
-/// fault is counted only in a call that answers it.
+/// fault is counted only in a call that returns a fault.
 pub trait Host {
-    /// What the host means to its caller.
+    /// What the host exposes to its caller.
     ghost meaning: { Self → Meaning };
 
-    /// Opens the file of that name, from which `read` then reads. A name that no file has is a
-    /// failure.
+    /// Opens the file of this name as the input that `read` reads. A name that no file has is a
+    /// failure. On failure no input is open.
     fn open_in(&mut self, name: &str) -> Result<(), Failed>
         ensures outside { OpensInput result (meaning self.old).outside (meaning self.new).outside name.now }
         ensures counts { CountsReading result (IsThere (meaning self.old).outside name.now) (meaning self.old).counts (meaning self.new).counts }
         ensures memory { CountsNothing result (meaning self.old).counts (meaning self.new).counts };
 
     /// Reads the next bytes of the input into the beginning of the buffer, and answers how many; 0
-    /// is the end of the input.
+    /// exactly at the end of the input. On failure the outside state is unchanged.
     fn read(&mut self, into: &mut [u8]) -> Result<usize, Failed>
         requires open { (meaning self.old).outside.reading ≡ true }
         requires within_bound { 0 < length into.old }
@@ -67,13 +69,15 @@ pub trait Host {
         ensures counts { CountsReading result (Unit {0}) (meaning self.old).counts (meaning self.new).counts }
         ensures memory { CountsNothing result (meaning self.old).counts (meaning self.new).counts };
 
-    /// Opens an output of that name, which is then empty, also if the call fails.
+    /// Opens an output with this name, which is empty then. On failure the output is empty too, but
+    /// not open.
     fn open_out(&mut self, name: &str) -> Result<(), Failed>
         ensures outside { OpensOutput result (meaning self.old).outside (meaning self.new).outside name.now }
         ensures counts { CountsWriting result (meaning self.old).counts (meaning self.new).counts }
         ensures memory { CountsNothing result (meaning self.old).counts (meaning self.new).counts };
 
-    /// Adds the first bytes of `from` to the output, and answers how many, at least one.
+    /// Appends the first bytes of `from` to the output, and answers how many, at least one. On
+    /// failure the outside state is unchanged.
     fn write(&mut self, from: &[u8]) -> Result<usize, Failed>
         requires open { (meaning self.old).outside.writing ≡ true }
         requires some { 0 < length from.now }
@@ -83,14 +87,16 @@ pub trait Host {
         ensures counts { CountsWriting result (meaning self.old).counts (meaning self.new).counts }
         ensures memory { CountsNothing result (meaning self.old).counts (meaning self.new).counts };
 
-    /// Closes the output, which is kept then. It is closed also if the call fails; its bytes stay.
+    /// Closes the output, and records it among the closed ones. On failure it is closed too, but
+    /// not recorded.
     fn close_out(&mut self) -> Result<(), Failed>
         requires { (meaning self.old).outside.writing ≡ true }
         ensures outside { ClosesOutput result (meaning self.old).outside (meaning self.new).outside }
         ensures counts { CountsWriting result (meaning self.old).counts (meaning self.new).counts }
         ensures memory { CountsNothing result (meaning self.old).counts (meaning self.new).counts };
 
-    /// Adds the first bytes of `from` to standard output, and answers how many, at least one.
+    /// Appends the first bytes of `from` to standard output, and answers how many, at least one. On
+    /// failure the outside state is unchanged.
     fn say(&mut self, from: &[u8]) -> Result<usize, Failed>
         requires { 0 < length from.now }
         ensures count { IfOk result (λ count. count ≤ length from.now) }
@@ -99,7 +105,7 @@ pub trait Host {
         ensures counts { CountsWriting result (meaning self.old).counts (meaning self.new).counts }
         ensures memory { CountsNothing result (meaning self.old).counts (meaning self.new).counts };
 
-    /// A host that exposes its files exposes the input, and one that exposes the closed outputs
-    /// exposes the opened one.
+    /// A host that exposes its files also exposes the input, and one that exposes the closed
+    /// outputs also exposes the opened one.
     ghost tells_whole: { (h : Self) → TellsWhole (meaning h).outside };
 }

@@ -1,4 +1,4 @@
-//! A host over files in memory, some of whose calls are to fail.
+//! A host over files in memory, some of whose calls can be made to fail.
 ghost use Rattle.std.specs.Prelude.{◌≡◌, ◌≢◌, ◌<◌, ◌↔◌, ◌⊎◌, ◌++◌, [], true, IsSome, map, min, take, drop, length, option_map, string_bytes, Contains, IsNone, IsTrue, IfOk, OnOk, OnErr, IsErrOf};
 ghost use Rattle.std.specs.FinMap as finite;
 ghost use Rattle.gms_host.specs.MemoryState.{file_of, files_of, at_start, in_pieces_of, piece, with_call_numbered, with_read_fault, with_write_fault, memory_meaning, IsToFail, after_open_in, after_read, after_open_out, after_write, after_close_out, after_say};
@@ -7,11 +7,12 @@ use crate::host::{Failed, Host};
 use std::alloc::Global;
 use std::marker::Model;
 
-/// A host over files in memory, which exposes all.
+/// A host over files in memory, which exposes all of its state.
 ///
-/// It numbers its calls from 0, and a call whose number is in `fail` is a fault. So is an `open_in`
-/// of a name that no file has, and no other call is one: the host is reliable exactly if `fail` is
-/// empty. The number and both counts of faults stop at the greatest number of their type.
+/// It numbers its calls from 0. A call returns a fault exactly if its number is in the list `fail`
+/// with which the host is made, or if it is an `open_in` of a name that no file has. So the host is
+/// reliable exactly if `fail` is empty. The call number and both counts of faults saturate at the
+/// greatest number of their type.
 #[derive(Debug, Drop)]
 pub struct MemHost {
     alloc: Global,
@@ -61,8 +62,9 @@ impl Model for MemHost {
 }
 
 impl MemHost {
-    /// A host of these files, of which the first counts if several have one name. Nothing is open,
-    /// and the calls whose numbers are in `fail` are to fail.
+    /// A host over these files, each with its name and its bytes. If several files have one name,
+    /// the first of them counts. Nothing is open. `fail` has the numbers, from 0, of the calls that
+    /// are to fail.
     pub fn new(alloc: Global, files: Vec<(String, Vec<u8>)>, fail: Vec<u64>) -> MemHost
         ensures { result ≡ at_start (files_of files.items) fail.items }
     {
@@ -86,7 +88,8 @@ impl MemHost {
         }
     }
 
-    /// A host as `new` makes it, that reads, writes and prints at most `most` bytes a call.
+    /// A host as `new` makes it, except that each call reads, writes or prints at most `most`
+    /// bytes.
     pub fn in_pieces(
         alloc: Global,
         files: Vec<(String, Vec<u8>)>,
@@ -102,35 +105,36 @@ impl MemHost {
         }
     }
 
-    /// The number of the next call.
+    /// The number that the next call has; the first call of the host has number 0.
     pub fn calls(&self) -> u64
         ensures { result ≡ self.now.calls }
     {
         self.calls
     }
 
-    /// The names of the files that were opened so far, in order.
+    /// The names with which an input or an output was opened so far, in order, without those whose
+    /// opening failed.
     pub fn asked(&self) -> &[String]
         ensures { map string_bytes result.now ≡ self.now.asked }
     {
         self.asked.as_slice()
     }
 
-    /// The names and the bytes of the outputs that were closed so far, in order.
+    /// The name and the bytes of each output that was closed without a failure so far, in order.
     pub fn closed(&self) -> &[(String, Vec<u8>)]
         ensures { map file_of result.now ≡ self.now.kept }
     {
         self.kept.as_slice()
     }
 
-    /// The bytes of the opened output so far.
+    /// The bytes that were written to the output since it was opened.
     pub fn output(&self) -> &[u8]
         ensures { result.now ≡ self.now.output }
     {
         self.output.as_slice()
     }
 
-    /// The bytes of standard output so far.
+    /// The bytes that were printed on standard output so far.
     pub fn said(&self) -> &[u8]
         ensures { result.now ≡ self.now.said }
     {
@@ -181,10 +185,10 @@ impl Host for MemHost {
 
     ghost tells_whole = { λ _. record { input = λ told. told; output = λ told. (told, told) } };
 
-    /// Opens the file of that name, and notes the name among the requested ones.
+    /// Opens the file of this name, and notes the name among the requested ones.
     ///
-    /// It is a fault if the call is to fail or no file has the name. If it fails no input is open,
-    /// and the name is not noted.
+    /// It is a fault exactly if the call is to fail or no file has the name. On failure no input is
+    /// open, and the name is not noted.
     fn open_in(&mut self, name: &str) -> Result<(), Failed>
         ensures after { self.new ≡ after_open_in self.old name.now result }
         ensures found { OnOk result (IsSome (finite.get self.old.files name.now)) }
@@ -205,10 +209,11 @@ impl Host for MemHost {
         Ok(())
     }
 
-    /// Gives as many bytes as remain, fit and go in one call, and leaves the rest of the buffer
-    /// unchanged.
+    /// Reads as many bytes as remain in the input, fit in the buffer and go in one call, and leaves
+    /// the rest of the buffer unchanged.
     ///
-    /// It is a fault exactly where the call is to fail, and takes no memory. Then nothing is given.
+    /// It is a fault exactly if the call is to fail, and never runs out of memory. On failure the
+    /// buffer is unchanged.
     fn read(&mut self, into: &mut [u8]) -> Result<usize, Failed>
         requires open { self.old.reading ≡ true }
         requires within_bound { 0 < length into.old }
@@ -233,8 +238,8 @@ impl Host for MemHost {
 
     /// Opens an empty output, and notes the name among the requested ones.
     ///
-    /// It is a fault exactly where the call is to fail. If it fails the output is empty and not
-    /// open, and the name is not noted.
+    /// It is a fault exactly if the call is to fail. On failure the output is empty and not open,
+    /// and the name is not noted.
     fn open_out(&mut self, name: &str) -> Result<(), Failed>
         ensures after { self.new ≡ after_open_out self.old name.now result }
         ensures exact { IsErrOf result Failed.Fault ↔ IsToFail self.old }
@@ -251,9 +256,9 @@ impl Host for MemHost {
         Ok(())
     }
 
-    /// Adds the first bytes to the output, as many as go in one call.
+    /// Appends the first bytes to the output, as many as go in one call.
     ///
-    /// It is a fault exactly where the call is to fail. Where it fails nothing is added.
+    /// It is a fault exactly if the call is to fail. On failure nothing is appended.
     fn write(&mut self, from: &[u8]) -> Result<usize, Failed>
         requires open { self.old.writing ≡ true }
         requires some { 0 < length from.now }
@@ -270,10 +275,10 @@ impl Host for MemHost {
         Ok(count)
     }
 
-    /// Closes the output, whose bytes stay, and keeps a copy of it with its name.
+    /// Closes the output, whose bytes remain, and records a copy of it with its name.
     ///
-    /// It is a fault exactly where the call is to fail. If it fails the output is closed too, and
-    /// no copy is kept.
+    /// It is a fault exactly if the call is to fail. On failure the output is closed too, and no
+    /// copy is recorded.
     fn close_out(&mut self) -> Result<(), Failed>
         requires { self.old.writing ≡ true }
         ensures after { self.new ≡ after_close_out self.old result }
@@ -289,9 +294,9 @@ impl Host for MemHost {
         Ok(())
     }
 
-    /// Adds the first bytes to standard output, as many as go in one call.
+    /// Appends the first bytes to standard output, as many as go in one call.
     ///
-    /// It is a fault exactly where the call is to fail. Where it fails nothing is added.
+    /// It is a fault exactly if the call is to fail. On failure nothing is appended.
     fn say(&mut self, from: &[u8]) -> Result<usize, Failed>
         requires { 0 < length from.now }
         ensures after { self.new ≡ after_say self.old from.now result }

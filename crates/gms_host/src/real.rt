@@ -16,9 +16,9 @@ const TRIES: u32 = 64;
 
 /// A host over real files and standard output.
 ///
-/// It exposes no files, no names and no bytes, and does not promise to be reliable. Each error of
-/// std is counted as a fault, except out of memory, and so is a write that takes nothing. An
-/// interrupted read or write is made again, up to 64 times in all.
+/// It exposes no files, no names and no bytes, and promises neither to be reliable nor to be
+/// precise. Each error of std except out of memory is counted as a fault, and so is a write of no
+/// bytes. A call repeats a read or a write that was interrupted, and makes at most 64 tries.
 #[derive(Drop)]
 pub struct RealHost<R: Files> {
     runtime: R,
@@ -43,7 +43,8 @@ impl<R: Files> Model for RealHost<R> {
 }
 
 impl<R: Files> RealHost<R> {
-    /// A host over the files and the standard output of this runtime. Nothing is open.
+    /// A host over the files and the standard output of this runtime. Nothing is open, and no fault
+    /// is counted.
     pub fn new(rt: R) -> RealHost<R>
         ensures { result ≡ untouched }
     {

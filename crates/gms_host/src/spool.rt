@@ -10,10 +10,10 @@ use std::marker::Model;
 /// How many bytes are pending at most.
 const ROOM: usize = 4096;
 
-/// Bytes that are still to be written, at most 4,096 of them. Their memory is taken when the spool
-/// is made.
+/// A buffer of at most 4,096 pending bytes, those that are still to be written to a host. Its
+/// memory is allocated when the spool is made.
 ///
-/// The output of a host, followed by what is pending, is the text that was put so far.
+/// The output of a host, followed by the pending bytes, is the text that was put so far.
 #[derive(Debug)]
 pub struct Spool {
     pending: Vec<u8>,
@@ -52,7 +52,7 @@ fn write_all<H: Host>(host: &mut H, bytes: &[u8]) -> Result<(), Failed>
 }
 
 impl Spool {
-    /// A spool in which nothing is pending.
+    /// A spool in which nothing is pending. The error is out of memory.
     pub fn new(alloc: Global) -> Result<Spool, AllocError>
         ensures { IfOk result (λ spool. spool ≡ []) }
     {
@@ -61,12 +61,14 @@ impl Spool {
         })
     }
 
-    /// Appends a text to what is pending, and writes what does not fit.
+    /// Appends a text to the pending bytes, and writes these to the host whenever the buffer is
+    /// full and more of the text follows.
     ///
-    /// The output followed by what is pending then is what it was, followed by the text. The error
-    /// is that of a `write` of the host; a fault comes only where one of writing was counted. Then
-    /// the output is what it was, followed by a prefix of what was pending and of the text, and
-    /// nothing is pending. Only the output of the host and its count of faults of writing change.
+    /// On success, the output followed by the pending bytes is what these two were before, followed
+    /// by the text. The error is that of a `write` of the host; it is `Fault` only if a fault of
+    /// writing was counted in this call. After an error nothing is pending, and of the former
+    /// pending bytes and the text together only a prefix is appended to the output. Only the output
+    /// of the host and its count of faults of writing change.
     pub fn put<H: Host>(&mut self, host: &mut H, text: &[u8]) -> Result<(), Failed>
         requires { (H.meaning host.old).outside.writing ≡ true }
         ensures outside { PutsThrough result (H.meaning host.old).outside (H.meaning host.new).outside (self.old ++ text.now) self.new }
@@ -109,12 +111,11 @@ impl Spool {
         };
     }
 
-    /// Writes what is pending.
+    /// Writes all pending bytes to the host. Afterwards nothing is pending, even after an error.
     ///
-    /// The output then is what it was, followed by what was pending, and nothing is pending. The
-    /// error is that of a `write` of the host; a fault comes only where one of writing was counted.
-    /// Then the output is what it was, followed by a prefix of what was pending, and nothing is
-    /// pending. Only the output of the host and its count of faults of writing change.
+    /// On success the bytes are appended to the output, and after an error only a prefix of them.
+    /// The error is that of a `write` of the host; it is `Fault` only if a fault of writing was
+    /// counted in this call. Only the output of the host and its count of faults of writing change.
     pub fn flush<H: Host>(&mut self, host: &mut H) -> Result<(), Failed>
         requires { (H.meaning host.old).outside.writing ≡ true }
         ensures outside { WritesAll result (H.meaning host.old).outside (H.meaning host.new).outside self.old }

@@ -11,7 +11,7 @@ use Rattle.gms_grammar.specs.Grammar.{the, DerivationTree, leaf, pair, more, nod
 use Rattle.gms_grammar.specs.GamsGrammar.{Program, productions}
 use Rattle.gms_expressions.specs.Outcomes.{kinded_tokens}
 
--- the joint source: the saved source, a line end, a line with `;`, and the file
+-- the joint source: the saved source, a line end, a line with `;`, and the file that continues it
 abbrev pub joint_source : List ℕ → List ℕ → List ℕ
 joint_source saved file = saved ++ (10 ∷ 59 ∷ 10 ∷ file)
 
@@ -19,8 +19,9 @@ joint_source saved file = saved ++ (10 ∷ 59 ∷ 10 ∷ file)
 abbrev pub first_line : List ℕ → ℕ
 first_line saved = length (filter (λ byte. byte == 10) saved) + 3
 
--- The tokens of a joint source are those of the saved source without its end, line ends that are
--- tokens, a `;`, and others, which begin where the file does or below.
+-- The tokens `joint` of a joint source begin as the tokens `tokens` of the saved source without the
+-- token of its end. Line ends that are tokens may follow, then a `;`, and then other tokens, which
+-- begin at the first byte of the file or after it.
 pub record HaveJointPrefix (saved : List ℕ) (tokens joint : List Token) : Type 0 where
   pub own : List Token
   pub tokens_are : tokens ≡ own ++ end_token saved ∷ []
@@ -32,19 +33,22 @@ pub record HaveJointPrefix (saved : List ℕ) (tokens joint : List Token) : Type
   pub is_semicolon : semicolon.kind ≡ Symbol Semicolon
   pub below : All (λ (token : Token). length saved + 3 ≤ token.start) others
 
--- The tokens of a source are those of a program, which this tree derives, and the end.
+-- The tokens of a source, with their kinds, are those of `tree`, a derivation tree of a program,
+-- followed by the token of the source's end.
 pub record DerivesSource (source : List ℕ) (tokens : List Token) (tree : DerivationTree (Terminal × Token)) : Type 0 where
   pub end : Token
   pub is_tree : IsTree productions (the Program) tree
   pub yields : kinded_tokens source tokens ≡ yield tree ++ (End, end) ∷ []
 
--- semicolons with what follows each, and more of them
+-- the first repetition, of semicolons with a segment after each, with the repetition `tree`
+-- appended
 abbrev pub attach : {T : Type 0} → DerivationTree T → DerivationTree T → DerivationTree T
 attach (more first others) tree = more first (attach others tree)
 attach _ tree = tree
 
--- The derivation of a program begins with that of another: the same segments, of which each except
--- the first follows a `;`, are followed by a `;` and more of them.
+-- The derivation `whole` of a program begins with the derivation `first` of another: it has the
+-- same segments of statements, and then a `;` and further segments. Each segment except the first
+-- follows a `;`.
 pub record BeginsWith (whole first : DerivationTree (Terminal × Token)) : Type 0 where
   pub segment : DerivationTree (Terminal × Token)
   pub others : DerivationTree (Terminal × Token)

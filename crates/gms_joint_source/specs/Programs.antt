@@ -5,9 +5,9 @@ use Rattle.gms_ast.specs.StatementTrees.{Statements, followed_by}
 use Rattle.gms_table.specs.WordLabels.{IsPrefix}
 use Rattle.gms_parse.specs.Outcomes.{ProgramView}
 
--- A program begins with another: it has the other's names and labels, perhaps followed by more, so
--- that each has the same number in both; and it has the other's statements, perhaps followed by
--- others.
+-- The program `whole` begins with `first`: it has the names and labels of `first`, perhaps followed
+-- by more, so that each has the same number in both; and it has the statements of `first`, perhaps
+-- followed by others.
 pub record IsProgramPrefix (first whole : ProgramView) : Type 0 where
   pub names : IsPrefix first.names whole.names
   pub labels : IsPrefix first.labels whole.labels

@@ -93,7 +93,7 @@ pub is_same_trans : (a b c : List ℕ) → is_same a b ≡ true → is_same b c 
 is_same_trans a b c p q =
     (bytes_eq-Decides (lower_case a) (lower_case c)).1 ((bytes_eq-Decides (lower_case a) (lower_case b)).0 p ∙ (bytes_eq-Decides (lower_case b) (lower_case c)).0 q)
 
--- a place is unique: the place of a text is the one place at which its label stands
+-- a place is unique: the place of a text is the only one at which its label is
 pub place_of-unique : (texts : List (List ℕ)) (text : List ℕ) (n : ℕ) → AreDistinct texts → n < length texts → is_same text (get_or texts n []) ≡ true → place_of texts text ≡ Some n
 place_of-unique texts text n distinct l e =
     position_from (is_same text) texts n l (position_or_len_is (is_same text) texts n [] (omega arith) (λ k below. by k below (is_same text (get_or texts k [])) refl) (λ _. e))

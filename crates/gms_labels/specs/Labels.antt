@@ -1,13 +1,13 @@
--- Labels: a list of texts that differ when letter case is ignored, each named by its place.
+-- Labels: a list of texts that differ even when letter case is ignored, each named by its position.
 use Rattle.std.specs.Prelude.{◌≡◌, ℕ, ◌≤◌, Bool, false, List, [], ◌∷◌, ◌++◌, length, map, Option, None, position, is_some, if◌then◌else◌, All, AllPairs}
 use Rattle.std.specs.Char.{to_ascii_lowercase}
 use Rattle.std.specs.Str.{str_eq_ignore_ascii_case}
 
--- how many bytes a label may have
+-- the greatest number of bytes that a label may have
 abbrev pub most_label_bytes : ℕ
 most_label_bytes = 63
 
--- how many labels a table may have
+-- the greatest number of labels that a table may have
 abbrev pub most_labels : ℕ
 most_labels = 65536
 
@@ -19,19 +19,21 @@ lower_case text = map to_ascii_lowercase text
 abbrev pub is_same : List ℕ → List ℕ → Bool
 is_same a b = str_eq_ignore_ascii_case a b
 
--- the place of a text in a list, letter case ignored
+-- the position, from 0, of a text in a list, letter case ignored; None if the list does not have it
 abbrev pub place_of : List (List ℕ) → List ℕ → Option ℕ
 place_of texts text = position (is_same text) texts
 
--- the list after a text was entered: a new text is appended
+-- the list after a text is entered: a new text is appended, and a text that the list has changes
+-- nothing
 abbrev pub entered : List (List ℕ) → List ℕ → List (List ℕ)
 entered texts text = if is_some (place_of texts text) then texts else texts ++ text ∷ []
 
--- the text is new, and the list has as many texts as a table may have
+-- the list cannot take the text: it does not have it, and already has as many texts as a table may
+-- have
 abbrev pub IsFullFor : List (List ℕ) → List ℕ → Type 0
 IsFullFor texts text = (place_of texts text ≡ None) × (length texts ≡ most_labels)
 
--- no two texts of the list are one label
+-- no two texts of the list are equal when letter case is ignored
 abbrev pub AreDistinct : List (List ℕ) → Type 0
 AreDistinct texts = AllPairs (λ a b. is_same a b ≡ false) texts
 

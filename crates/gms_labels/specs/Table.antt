@@ -4,11 +4,11 @@ use Rattle.std.specs.Prelude.{◌≡◌, ℕ, List, map, String, string_bytes}
 use Rattle.std.specs.declared.alloc.Global.{Global}
 use Rattle.gms_labels.specs.Labels.{lower_case, AreLabels}
 
--- one entry: the text in lower case, and as first written
+-- an entry of a table: its key, which is a text in lower case, and the same text as first written
 abbrev pub Entry : Type 0
 Entry = List ℕ × String Global
 
--- the texts as first written
+-- the texts of the entries as first written, in order
 abbrev pub texts_of : List Entry → List (List ℕ)
 texts_of entries = map (λ entry. string_bytes entry.1) entries
 

@@ -11,7 +11,7 @@ pub enum LabelFault {
     /// The text is new, and the table has 65,536 labels, as many as a table may have.
     #[error("over 65,536 labels")]
     Full,
-    /// Out of memory: a growth found none.
+    /// Out of memory: there is no memory for a larger table.
     #[error("out of memory")]
     Memory,
 }

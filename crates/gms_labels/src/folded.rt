@@ -28,7 +28,7 @@ impl Model for Folded {
 }
 
 impl Folded {
-    /// The text in lower case.
+    /// The text with its ASCII letters in lower case.
     pub fn new(text: &str) -> Folded
         requires { length text.now ≤ most_label_bytes }
         ensures { result ≡ lower_case text.now }
@@ -44,7 +44,7 @@ impl Folded {
         }
     }
 
-    /// Its bytes.
+    /// The bytes of the text, whose ASCII letters are in lower case.
     pub fn as_slice(&self) -> &[u8]
         ensures { result.now ≡ self.now }
     {

@@ -9,26 +9,27 @@ use indexmap::IndexMap;
 use std::alloc::Global;
 use std::marker::Model;
 
-/// How many labels a table has at most.
+/// The greatest number of labels of a table.
 pub const MOST_LABELS: usize = 65_536;
 
-/// How many bytes a label has at most.
+/// The greatest number of bytes of a label.
 pub const MOST_BYTES: usize = 63;
 
-/// Up to how many labels a search compares texts, which takes less than a hash then.
+/// The greatest number of labels for which a search compares the text with each label, since a hash
+/// takes longer.
 const FEW: u32 = 16;
 
-/// A table of labels: texts that differ when letter case is ignored, each named by its place, in
-/// the order in which they were entered.
+/// A table of labels: texts of which no two are the same when letter case is ignored. The number of
+/// a label is its position, from 0, in the order in which the labels were entered.
 ///
-/// A text keeps the case in which it was first written. Only the case of ASCII letters is ignored.
+/// A label keeps the case in which it was first written. Only the case of ASCII letters is ignored.
 /// Among more than 16 labels a search looks up a hash, which depends on the table's seed.
 pub struct Labels {
     // from each text in lower case to the text as first written
     texts: IndexMap<Folded, String, Seeded>,
 }
 
-// Written out, so that it is proved here alone, and not in each crate that lets one go.
+// Written out, so that it is proved here once, and not in each crate that drops such a value.
 impl Drop for Labels {
     fn drop(self) {
         let Self { texts: _ } = self;
@@ -47,7 +48,7 @@ impl Model for Labels {
 }
 
 impl Labels {
-    /// An empty table without a seed.
+    /// An empty table that hashes labels without a seed.
     pub fn new(alloc: Global) -> Labels
         ensures { result ≡ [] }
     {
@@ -56,7 +57,9 @@ impl Labels {
         }
     }
 
-    /// An empty table with a seed: `source_seed` of a source, where others choose the labels.
+    /// An empty table that hashes labels with this seed. If the labels are written in a source,
+    /// pass the `source_seed` of the source, so that an author cannot easily choose labels that all
+    /// have the same hash.
     pub fn with_seed(alloc: Global, seed: u64) -> Labels
         ensures { result ≡ [] }
     {
@@ -80,11 +83,11 @@ impl Labels {
         self.texts.is_empty()
     }
 
-    /// The place of a text of at most 63 bytes, letter case ignored. A new text is entered at the
-    /// end.
+    /// The position of a text in the table, from 0, letter case ignored. A text that the table does
+    /// not have is new: it is appended. The text has at most 63 bytes.
     ///
-    /// `Full` exactly if the text is new and the table has 65,536 labels. After `Full`, and after
-    /// out of memory, the table is as it was.
+    /// The error is `Full` exactly if the text is new and the table has 65,536 labels. After
+    /// `Full`, and after out of memory, the table is unchanged.
     pub fn enter(&mut self, alloc: Global, text: &str) -> Result<u32, LabelFault>
         requires { length text.now ≤ most_label_bytes }
         // The text has the place that is answered, and a new text has the last place.
@@ -126,8 +129,8 @@ impl Labels {
         Ok(())
     }
 
-    /// The place of a text of at most 63 bytes, letter case ignored. `None` exactly if the table
-    /// does not have it.
+    /// The position of a text in the table, from 0, letter case ignored; `None` exactly if the
+    /// table does not have the text. The text has at most 63 bytes.
     pub fn find(&self, text: &str) -> Option<u32>
         requires { length text.now ≤ most_label_bytes }
         ensures place { result ≡ place_of self.now text.now }
@@ -154,7 +157,8 @@ impl Labels {
         None
     }
 
-    /// The text at a place that has one, as it was first written.
+    /// The label at the position `n`, from 0, in the case in which it was first written. The
+    /// position is below the number of labels.
     pub fn text(&self, n: u32) -> &str
         requires { n < length self.now }
         ensures value { slice_get self.now n ≡ Some result.now }

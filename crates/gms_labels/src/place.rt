@@ -8,9 +8,10 @@ use std::fmt;
 /// In `set i /a/;` the name `i` is at line 1 and column 5, which is shown as `1:5`.
 #[derive(Clone, Copy, Debug, PartialEq, Eq, PartialOrd, Ord, Hash)]
 pub struct Place {
-    /// The line, from 1.
+    /// The number of the line in the source, from 1.
     pub line: u32,
-    /// The column, from 1.
+    /// The column in the line, from 1. It counts bytes, but a tab moves to the next column that is
+    /// one more than a multiple of 8.
     pub column: u32,
 }
 

@@ -4,22 +4,23 @@ ghost use Rattle.std.specs.Hash.DefaultHasher as sip;
 
 use std::hash::{BuildHasher, DefaultHasher, Hasher};
 
-/// Makes hashers that have read a seed: SipHash-1-3 of the seed's eight bytes, followed by those of
-/// a key.
+/// A maker of hashers of keys. With a seed, the hash of a key is SipHash-1-3 of the eight bytes of
+/// the seed followed by the bytes of the key. Without a seed, it is SipHash-1-3 of the bytes of the
+/// key alone.
 #[derive(Clone, Copy)]
 pub struct Seeded {
     initial: DefaultHasher,
 }
 
 impl Seeded {
-    /// The hashers of a seed.
+    /// A maker of hashers that hash the eight bytes of this seed before the bytes of a key.
     pub fn new(seed: u64) -> Seeded {
         let mut initial = DefaultHasher::new();
         initial.write_u64(seed);
         Seeded { initial }
     }
 
-    /// The hashers without a seed.
+    /// A maker of hashers without a seed, which hash only the bytes of a key.
     pub fn unseeded() -> Seeded {
         Seeded {
             initial: DefaultHasher::new(),
@@ -37,10 +38,11 @@ impl BuildHasher for Seeded {
     }
 }
 
-/// The seed for the tables of a source: SipHash-1-3 of its bytes.
+/// The seed for the tables of labels of a source: SipHash-1-3 of the bytes of the source.
 ///
-/// The same source has the same seed, so each run does the same. Labels chosen to have one hash
-/// under some seed change the bytes of their source, and so its seed.
+/// The same source has the same seed, so each run does the same. An author who chooses labels that
+/// all have the same hash under some seed changes the bytes of the source by this choice, and so
+/// the seed.
 pub fn source_seed(source: &[u8]) -> u64
     ensures { result ≡ sip.finish (sip.write sip.initial source.now) }
 {

@@ -67,7 +67,7 @@ same-kinds a b same n =
     ∙ (ap (λ (s : Symbol). kind_in s.content) (blanked-at b.symbols n) ∙ emptied-kind (symbol_at b n).content)
 
 module _ {F : Type 0} (v : F → Number) (limit : ℕ) (world : World F) (state : State) (lasts : IsLasting v world.program state) (before : List (Stmt F)) (statement : Stmt F) (occurs : FollowsIn world.program before statement) where
-  -- what is declared where the statement stands
+  -- what is declared where the statement is
   abbrev then_state : State
   then_state = state_after v (length world.program.names) (sound before)
 

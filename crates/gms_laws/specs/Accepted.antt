@@ -8,15 +8,15 @@ use Rattle.gms_parse.specs.Outcomes.{ProgramView, program_view, HasProgram}
 use Rattle.gms_check.specs.CompileErrors.{compile_errors}
 use Rattle.gms_gen.specs.Generator.{generated_model_text}
 
--- A source is accepted, where solvers of these names are lent: it has a program, and that program
--- has no compile error, wherever its parts are stored.
+-- A source is accepted with solvers of these names: it has a program, and each stored form of that
+-- program has no compile error.
 pub record IsAcceptedSource (solvers : List (List ℕ)) (source : List ℕ) : Type 0 where
   -- the view of the program
   pub view : ProgramView
   pub has_program : HasProgram frac_limit source view
   pub no_error : (program : Program Frac) → program_view frac_value program ≡ view → compile_errors frac_value program solvers ≡ []
 
--- Each model that a command may request, of 1 to 30 plants and as many markets, is accepted,
--- whichever solvers are lent.
+-- Each model that `--generate N` writes, with N from 1 to 30 as its seed, its number of plants and
+-- its number of markets, is accepted with solvers of any names.
 abbrev pub GeneratedAreAccepted : Type 0
 GeneratedAreAccepted = (size : ℕ) → 1 ≤ size → size ≤ 30 → (solvers : List (List ℕ)) → IsAcceptedSource solvers (generated_model_text size size size)

@@ -23,7 +23,7 @@ use Rattle.gms_run_laws.specs.LastStates.{MayBegin}
 use Rattle.gms_run_laws.specs.Reached.{IsReached, IsStatementOf}
 use Rattle.gms_laws.specs.Domains.{HasItsMembers, IsWhereItHolds}
 
--- An assignment that is executed.
+-- An execution of an assignment.
 pub record Execution (F : Type 0) : Type 0 where
   pub world : World F
   pub statement : Stmt F
@@ -32,28 +32,28 @@ pub record Execution (F : Type 0) : Type 0 where
   pub condition : Option (Expr F)
   pub right_at : Place
   pub right : Expr F
-  -- the labels that the sets of loops stand for
+  -- the labels of the sets that loops control
   pub binding : Pairs
-  -- the states before it and after it
+  -- the states before the assignment and after it
   pub before : State
   pub after : State
 
 module _ {F : Type 0} where
-  -- the indices of the left side
+  -- the indices of the left side of the assignment
   abbrev pub left_indices : Execution F → Indices F
   left_indices e = (target_of e.target).indices
 
-  -- the sets of the left side that no loop controls
+  -- the sets among the indices of the left side that no loop controls
   abbrev pub left_sets : Execution F → List ℕ
   left_sets e = newly_controlled e.binding (left_indices e)
 
-  -- the binding in which the sets of the left side stand for the labels of an element
+  -- the binding in which also the sets of the left side have labels, those of the element
   abbrev pub element_binding : Execution F → List ℕ → Pairs
   element_binding e element = controlled e.binding (left_sets e) element
 
 module _ {F : Type 0} (number_of : F → Number) (limit : ℕ) where
-  -- An assignment of an accepted program is executed without a fault, in a run from the program's
-  -- start or from a save.
+  -- The assignment of an accepted program is executed without a fault, from the state `before` to
+  -- `after`, in a run from the program's start or from a save.
   pub record IsCompleted (e : Execution F) : Type 0 where
     pub accepted : IsAccepted number_of e.world.program
     pub of_program : IsStatementOf e.world.program e.statement
@@ -67,24 +67,24 @@ module _ {F : Type 0} (number_of : F → Number) (limit : ℕ) where
     pub after_is : (of_statement number_of limit e.world e.statement e.binding course).state ≡ e.after
 
   -- The left side takes an element to a tuple: the element has a member of each set of the left
-  -- side, the condition holds for it, and under it each index has the label of the tuple.
+  -- side, the condition holds for it, and under it the indices have the labels of the tuple.
   pub record TakesTo (e : Execution F) (element tuple : List ℕ) : Type 0 where
     pub members : HasItsMembers e.before (left_sets e) element
     pub holds : IsWhereItHolds number_of limit e.before e.binding (control_over (left_sets e) (option_map tree_of e.condition)) element
     pub labels_are : labels number_of limit e.before (element_binding e element) (left_indices e) ≡ map (λ label. Ok (Some label)) tuple
 
-  -- the value of the right side under an element
+  -- the right side has the value x under the element
   abbrev pub IsRight : Execution F → List ℕ → Extended → Type 0
   IsRight e element x = value number_of limit e.before (element_binding e element) (tree_of e.right) ≡ Ok x
 
-  -- Under an element the right side has a value, which the attribute that the left side names has
-  -- after the assignment; the other attributes are as before.
+  -- Under the element the right side has a value, and that is the attribute of the left side's
+  -- suffix at the tuple after the assignment; the other attributes there are as before.
   pub record HasAttribute (e : Execution F) (element tuple : List ℕ) : Type 0 where
     pub x : Extended
     pub is : IsRight e element x
     pub given : attributes_of e.after e.target.name tuple ≡ with_attribute e.target.suffix (attributes_of e.before e.target.name tuple) x
 
--- What the assigned name has at a tuple is as before: a value, membership, or attributes.
+-- The value, the membership and the attributes of the assigned name at a tuple are as before.
 pub record IsKept {F : Type 0} (e : Execution F) (tuple : List ℕ) : Type 0 where
   pub value : value_of e.after e.target.name tuple ≡ value_of e.before e.target.name tuple
   pub member : has (members_of e.after e.target.name) tuple ≡ has (members_of e.before e.target.name) tuple

@@ -1,5 +1,5 @@
--- Where in a statement tokens are, and which tokens end an item or an element (GAMS User's Guide,
--- "GAMS Programs", data declarations and lists).
+-- The modes of reading, that is, where in a statement the next token is, and which tokens end an
+-- item or an element (GAMS User's Guide, "GAMS Programs", data declarations and lists).
 use Rattle.std.specs.Prelude.{ℕ, suc}
 use Rattle.gms_grammar.specs.declared.kind.Sym.{Sym}
 use Rattle.gms_grammar.specs.declared.kind.Sym.TheVariants.{RightParen, Comma, Semicolon, Dot, DotDot, Star, Power}
@@ -13,69 +13,72 @@ use Rattle.gms_lex.specs.declared.mode.Stage.TheVariants.{Fresh, Expected, After
 use Rattle.gms_lex.specs.declared.mode.Mode.{Mode}
 use Rattle.gms_lex.specs.declared.mode.Mode.TheVariants.{Named, Domain, Bare, Rest, Element, Value, Tail, TableNamed, TableDomain, TableBare, TableTexted}
 
--- in an item of a declaration: after its name, its domain, its text or its list
+-- the mode is within an item of a declaration of this shape: after its name, its domain, its text
+-- or its list
 pub data IsInItem : Shape → Mode → Type 0 where
   after_name : (shape : Shape) → IsInItem shape (Named shape)
   after_domain : (shape : Shape) → IsInItem shape (Bare shape)
   after_text : (shape : Shape) → IsInItem shape (Rest shape)
 
--- an element, a label of it, or a value is expected
+-- the mode is at the beginning of a list of this shape, or after a comma in it: an element, a value
+-- or a name is expected
 pub data IsExpected : Shape → Mode → Type 0 where
   element_of_set : IsExpected Set (Element Set 0 Fresh)
   element_of_parameter : IsExpected Parameter (Element Parameter 0 Fresh)
   value_of_scalar : IsExpected Scalar (Value Scalar)
   name_of_model : IsExpected Model (Value Model)
 
--- in a list, outside parentheses, after an element or in its text or value
+-- the mode is in a list of this shape, outside parentheses: after an element or in its text or
+-- value
 pub data IsAfterElement : Shape → Mode → Type 0 where
   after_label : (shape : Shape) → IsAfterElement shape (Element shape 0 After)
   after_blank : (shape : Shape) → IsAfterElement shape (Element shape 0 Spaced)
   in_tail : (shape : Shape) → IsAfterElement shape (Tail shape)
 
--- a label is expected: an element begins, or a dot, a star or a parenthesis comes before
+-- a label is expected: at the beginning of an element, or after a dot, a star or a parenthesis
 pub data IsLabelExpected : Stage → Type 0 where
   at_element : IsLabelExpected Fresh
   after_mark : IsLabelExpected Expected
 
--- a comma, or a line end that is a token, ends an item or an element
+-- the token ends an item or an element: a comma, or a line end that is a token
 pub data IsEnd : Piece → Type 0 where
   comma : IsEnd (Token (Symbol Comma))
   line_end : IsEnd (Token Break)
 
--- a dot, a star, or these twice, joins the next label to an element
+-- the symbol joins the next label to an element: a dot, a star, or these twice
 pub data Joins : Sym → Type 0 where
   dot : Joins Dot
   dots : Joins DotDot
   star : Joins Star
   stars : Joins Power
 
--- a label, unquoted or in quotation marks, or a symbol
+-- the piece is a label, unquoted or in quotation marks, or a symbol
 pub data IsLabelOrSymbol : Piece → Type 0 where
   a_label : IsLabelOrSymbol (Token Label)
   a_symbol : (symbol : Sym) → IsLabelOrSymbol (Token (Symbol symbol))
 
--- after a name that may have a domain, within that domain, and after it
+-- three modes: after a name that may have a domain, within that domain, and after it
 pub data HasDomain : Mode → Mode → Mode → Type 0 where
   of_item : (shape : Shape) → HasDomain (Named shape) (Domain shape) (Bare shape)
   of_table : HasDomain TableNamed TableDomain TableBare
 
--- within a domain, or within parentheses of a list
+-- the mode is within a domain, or within parentheses of a list
 pub data IsInParentheses : Mode → Type 0 where
   in_item_domain : (shape : Shape) → IsInParentheses (Domain shape)
   in_table_domain : IsInParentheses TableDomain
   in_list : (shape : Shape) (depth : ℕ) (stage : Stage) → IsInParentheses (Element shape (suc depth) stage)
 
--- a token that ends a domain: `)`, and `;`, which ends every statement
+-- the token ends a domain: `)`, or `;`, which ends every statement
 pub data EndsDomain : Piece → Type 0 where
   parenthesis : EndsDomain (Token (Symbol RightParen))
   semicolon : EndsDomain (Token (Symbol Semicolon))
 
--- after a table's name or its domain, where its text may be
+-- the mode is after a table's name or its domain, where its text may follow
 pub data IsBeforeText : Mode → Type 0 where
   table_named : IsBeforeText TableNamed
   table_bare : IsBeforeText TableBare
 
--- after a table's name, its domain or its text, where its lines may begin
+-- the mode is after a table's name, its domain or its text, where its lines may begin
 pub data IsBeforeLines : Mode → Type 0 where
   without_text : (mode : Mode) → IsBeforeText mode → IsBeforeLines mode
   with_text : IsBeforeLines TableTexted

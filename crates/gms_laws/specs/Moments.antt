@@ -1,5 +1,5 @@
--- The moment of a solve in a run, and what the answers of a run say (GAMS User's Guide, "Model and
--- Solve Statements", "GAMS Programs").
+-- The moment of a solve in a run, and what the answers of a run state (GAMS User's Guide, "Model
+-- and Solve Statements", "GAMS Programs").
 use Rattle.std.specs.Prelude.{◌≡◌, ℕ, Bool, List, map, take, slice_get, Some, Ok, All}
 use Rattle.gq_number.specs.Number.{Number}
 use Rattle.gms_ast.specs.declared.program.Act.TheVariants.{Solve}
@@ -17,17 +17,19 @@ use Rattle.lp_core.specs.declared.answer.Answer.{Answer}
 use Rattle.gms_laws.specs.Plans.{Question, IsSo}
 
 module _ {F : Type 0} (number_of : F → Number) (limit : ℕ) (world : World F) (first : State) (statements : List (Stmt F)) (answers : List (Answer F)) where
-  -- the run of the statements, with all answers
+  -- the course of the run of the statements with all answers: its state, its events and, if it has
+  -- halted, why
   abbrev pub run_with_answers : Course
   run_with_answers = run_from number_of limit world first (map (answer_numbers number_of) answers) statements
 
-  -- the run with only the answers before a place: it waits for the answer at that place
+  -- the course of the run of the statements with only the answers before the index `place`: it
+  -- halts at the solve that needs the answer of that index
   abbrev pub run_before : ℕ → Course
   run_before place = run_from number_of limit world first (take place (map (answer_numbers number_of) answers)) statements
 
-  -- A solve that a run shows: by which statement of the program, and in which state. The run with
-  -- only the earlier answers waits there for the next one, so its state is that of the solve; and
-  -- the linear program is the one that the model means in that state.
+  -- The event of a solve is that of an execution of a solve statement of the program. With only the
+  -- answers before its own the run waits at it, so the state there is that of the solve; and the
+  -- linear program is the one that the model means in that state.
   pub record IsSolve (solved : Solved) : Type 0 where
     pub statement : Stmt F
     pub of_program : IsStatementOf world.program statement
@@ -41,7 +43,8 @@ module _ {F : Type 0} (number_of : F → Number) (limit : ℕ) (world : World F)
     pub waits : (run_before solved.answer).halted ≡ Some waiting
     pub program : program_lp number_of limit (run_before solved.answer).state world.program.statements.items model.name objective.name maximize statement.at ≡ Ok solved.lp
 
-  -- the question of a solve
+  -- the question of a solve of the run: the program's statements, the state at the solve, its model
+  -- and objective, and the elements of the columns of its linear program
   abbrev pub question_of : (solved : Solved) → IsSolve solved → Question F
   question_of solved solve =
       record {
@@ -53,18 +56,19 @@ module _ {F : Type 0} (number_of : F → Number) (limit : ℕ) (world : World F)
         listed = column_elements solved.lp;
       }
 
-  -- A solve that a run shows is one of the program, and what its answer says is true.
+  -- The event of a solve is one of a solve statement of the program, and what its answer states is
+  -- true.
   pub record IsAnsweredRightly (solved : Solved) : Type 0 where
     pub solve : IsSolve solved
     pub answer : Answer F
     pub occurs : slice_get answers solved.answer ≡ Some answer
     pub is_so : IsSo number_of limit (question_of solved solve) (end_numbers number_of answer.end)
 
-  -- what the answer of an event says is true, if the event is a solve
+  -- if the event is a solve, what its answer states is true
   abbrev pub AnswerIsSo : Event → Type 0
   AnswerIsSo (solves solved) = IsAnsweredRightly solved
   AnswerIsSo event = Unit {0}
 
-  -- what each answer of the run says is true
+  -- what the answer of each solve of the run states is true
   abbrev pub AnswersAreSo : Type 0
   AnswersAreSo = All AnswerIsSo run_with_answers.events

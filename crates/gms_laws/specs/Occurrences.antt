@@ -1,6 +1,6 @@
--- Where parts occur in the expressions of a program, by the steps from an expression down to them
--- (GAMS User's Guide, "Data Manipulation", "Equations", "Conditional Expressions, Assignments and
--- Equations", "Dynamic Sets").
+-- Where subexpressions occur in the expressions of a program, by the path from an expression down
+-- to them (GAMS User's Guide, "Data Manipulation", "Equations", "Conditional Expressions,
+-- Assignments and Equations", "Dynamic Sets").
 use Rattle.std.specs.Prelude.{◌≡◌, ◌++◌, ℕ, true, false, List, [], ◌∷◌, All, Option, Some, Vec, length}
 use Rattle.std.specs.declared.alloc.Global.{Global}
 use Rattle.gms_labels.specs.declared.place.Place.{Place}
@@ -33,44 +33,45 @@ use Rattle.gms_check.specs.StatementUses.{index_list}
 
 -- ---- in an expression
 
--- A step from an expression to one of its parts.
+-- A step of a path: from an expression to one of its operands, arguments or conditions.
 pub data ExpressionStep : Type 0 where
-  -- what has a sign
+  -- to the operand of a sign
   signed_operand : ExpressionStep
-  -- of a sum or a difference, a product or a quotient, a power
+  -- to an operand of a sum or a difference, of a product or a quotient, of a power
   term : ExpressionStep
   factor : ExpressionStep
   power_operand : ExpressionStep
-  -- of a function
+  -- to an argument of a function
   argument : ExpressionStep
-  -- of a fold, its condition and what it folds
+  -- to the condition of a fold, and to its body
   fold_condition : ExpressionStep
   fold_body : ExpressionStep
   relation_operand : ExpressionStep
   not_operand : ExpressionStep
   and_operand : ExpressionStep
-  -- of `or` and `xor`
+  -- to an operand of `or` or `xor`
   or_operand : ExpressionStep
-  -- what `$` is applied to, and its condition
+  -- to the left operand of `$`, and to its condition
   dollar_operand : ExpressionStep
   dollar_condition : ExpressionStep
-  -- of an index of a reference
+  -- to the amount of a lag among the indices of a reference
   lag_amount : ExpressionStep
 
 module _ {F : Type 0} where
-  -- one of the parts of a node
+  -- the expression is one of these operands, arguments or conditions of a node
   pub data IsPartOf (tree : Tree F) : Parts F → Type 0 where
     first_part : {mark : Mark} {rest : Parts F} → IsPartOf tree (part mark tree rest)
     later_part : {mark : Mark} {other : Tree F} {rest : Parts F} → IsPartOf tree rest → IsPartOf tree (part mark other rest)
 
-  -- the amount of a lag of one of some indices
+  -- the expression is the amount of a lag of one of these indices
   pub data IsAmountIn (amount : Tree F) : Indices F → Type 0 where
     first_amount : {name : ℕ} {op : LagOp} {at : Place} {rest : Indices F} → IsAmountIn amount (lagged name op at amount rest)
     after_label : {n : ℕ} {rest : Indices F} → IsAmountIn amount rest → IsAmountIn amount (label n rest)
     after_set : {name : ℕ} {rest : Indices F} → IsAmountIn amount rest → IsAmountIn amount (set name rest)
     after_lag : {name : ℕ} {op : LagOp} {at : Place} {other : Tree F} {rest : Indices F} → IsAmountIn amount rest → IsAmountIn amount (lagged name op at other rest)
 
-  -- By these steps, from the outermost inwards, an expression has this part.
+  -- The expression `tree` occurs in an expression, at the end of this path, whose steps go from the
+  -- outermost inwards.
   pub data Occurs (tree : Tree F) : List ExpressionStep → Tree F → Type 0 where
     itself : Occurs tree [] tree
     in_signed : {steps : List ExpressionStep} {operand : Tree F} → Occurs tree steps operand → Occurs tree (signed_operand ∷ steps) (negated operand)
@@ -95,9 +96,9 @@ module _ {F : Type 0} where
 
 -- ---- in a statement
 
--- What an expression of a statement is there.
+-- The role of an expression in its statement.
 pub data Role : Type 0 where
-  -- the amount of a lag on the left
+  -- the amount of a lag on the left of an assignment or a definition
   left_amount : Role
   -- the condition of an assignment, a definition, a loop or an abort
   condition_of : Role
@@ -108,7 +109,8 @@ pub data Role : Type 0 where
   value_right : Role
 
 module _ {F : Type 0} (state : State) where
-  -- The expressions of an act, each in its role, where these names are declared.
+  -- An expression of the act, with its role. Whether an assigned name is a set in `state`
+  -- determines the role of the right side.
   pub data IsExpressionOf (act : Act F) : Role → Tree F → Type 0 where
     amount_in_assignment : {amount : Tree F} (target : Target F) (condition : Option (Expr F)) (right_at : Place) (right : Expr F) →
         act ≡ Assign target condition right_at (Value right) → IsAmountIn amount (index_list target.indices) → IsExpressionOf act left_amount amount
@@ -131,12 +133,13 @@ module _ {F : Type 0} (state : State) where
     right_of_value : (target : Target F) (condition : Option (Expr F)) (right_at : Place) (right : Expr F) →
         act ≡ Assign target condition right_at (Value right) → is_set (symbol_at state target.name).content ≡ false → IsExpressionOf act value_right (tree_of right)
 
--- what these statements of a program declare
+-- the state after the declarations, with their data, of the statements `before` of a program
 abbrev pub declared_before : {F : Type 0} → (F → Number) → Program F → List (Stmt F) → State
 declared_before value program before = state_after value (length program.names) (sound before)
 
--- A part of an expression of a statement of the program, or of one in its loops, after the
--- statements `before`: the expression's role, and the steps to the part.
+-- The expression `tree` occurs in the statement of the program that follows the statements
+-- `before`, or in the body of a loop there: at the end of the path `steps` in an expression with
+-- this role.
 pub record OccursIn {F : Type 0} (value : F → Number) (program : Program F) (before : List (Stmt F)) (role : Role) (steps : List ExpressionStep) (tree : Tree F) : Type 0 where
   pub outer : Stmt F
   pub is_placed : FollowsIn program before outer
@@ -149,7 +152,8 @@ pub record OccursIn {F : Type 0} (value : F → Number) (program : Program F) (b
 
 -- ---- where variables and sets may occur
 
--- steps of arithmetic: none to a condition, an operand of a relation or of logic, or a lag
+-- the step is one of arithmetic: not to a condition, an operand of a relation or of logic, or an
+-- amount of a lag
 pub data IsArithmetic : ExpressionStep → Type 0 where
   of_sign : IsArithmetic signed_operand
   of_sum : IsArithmetic term
@@ -159,7 +163,8 @@ pub data IsArithmetic : ExpressionStep → Type 0 where
   of_fold : IsArithmetic fold_body
   of_dollar : IsArithmetic dollar_operand
 
--- a step to an operand of `$`, `not`, `and`, `or` or `xor`, or to the condition of a fold
+-- the step is to a part of an expression that may be a set: to an operand or the condition of `$`,
+-- to an operand of `not`, `and`, `or` or `xor`, or to the condition of a fold
 pub data IsToSet : ExpressionStep → Type 0 where
   operand_of_dollar : IsToSet dollar_operand
   condition_of_dollar : IsToSet dollar_condition
@@ -168,8 +173,8 @@ pub data IsToSet : ExpressionStep → Type 0 where
   operand_of_or : IsToSet or_operand
   condition_of_fold : IsToSet fold_condition
 
--- steps within the right side of an assignment to a set: sums, products, `not`, and what `$` is
--- applied to
+-- the step is one within the right side of an assignment to a set: to an operand of a sign, a sum,
+-- a product, a power or `not`, or to the left operand of `$`
 pub data IsOfMembers : ExpressionStep → Type 0 where
   members_signed : IsOfMembers signed_operand
   members_added : IsOfMembers term
@@ -178,12 +183,14 @@ pub data IsOfMembers : ExpressionStep → Type 0 where
   members_denied : IsOfMembers not_operand
   members_where : IsOfMembers dollar_operand
 
--- Where a variable without suffix may occur: in a side of a definition, by arithmetic.
+-- A variable without suffix may occur at the end of this path in an expression with this role: in a
+-- side of a definition, by steps of arithmetic.
 pub data MayHaveVariable : Role → List ExpressionStep → Type 0 where
   in_side : {steps : List ExpressionStep} → All IsArithmetic steps → MayHaveVariable side_of steps
 
--- Where a set may occur: where a step to a set leads, alone in a condition, or among the members
--- of the right side of an assignment to a set.
+-- A set may occur at the end of this path in an expression with this role: if the last step is one
+-- to a set; alone as a condition; or, by steps within it, on the right side of an assignment to a
+-- set.
 pub data MayHaveSet : Role → List ExpressionStep → Type 0 where
   as_operand : {role : Role} {last : ExpressionStep} (steps : List ExpressionStep) → IsToSet last → MayHaveSet role (steps ++ last ∷ [])
   alone : MayHaveSet condition_of []

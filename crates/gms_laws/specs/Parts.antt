@@ -1,5 +1,5 @@
--- What the four calls for parts of expressions read, as relations (GAMS User's Guide, "Data
--- Manipulation", expressions).
+-- What the four functions that read a part of an expression from tokens give, as relations (GAMS
+-- User's Guide, "Data Manipulation", expressions).
 use Rattle.std.specs.Prelude.{◌≡◌, ℕ, List, map}
 use Rattle.gq_number.specs.Number.{Number}
 use Rattle.gms_ast.specs.declared.expression.Control.{Control}
@@ -16,19 +16,20 @@ use Rattle.gms_expressions.specs.ExpressionTrees as trees
 use Rattle.gms_expressions.specs.Calls.{IsRead}
 use Rattle.gms_expressions.specs.Outcomes.{ExpressionState, IsPart}
 
--- tokens in the grammar's view
+-- tokens, each with the terminal of the grammar that it is
 abbrev pub Tokens : Type 0
 Tokens = List (Terminal × Token)
 
--- the derivation of a part
+-- a derivation tree of a part over such tokens
 abbrev pub Derivation : Type 0
 Derivation = DerivationTree (Terminal × Token)
 
--- two readings leave the same state, and end before the same tokens
+-- two readings end in the same state, with the same tokens remaining
 abbrev pub EndAlike : ExpressionState → ExpressionState → Tokens → Tokens → Type 0
 EndAlike after later rest others = (after ≡ later) × (rest ≡ others)
 
--- a part of these tokens is read
+-- Some prefix of these tokens is a part that the nonterminal `n` derives, read from the state
+-- `before`.
 pub record SomePart (limit : ℕ) (source : List ℕ) (n : Nonterminal) (before : ExpressionState) (tokens : Tokens) : Type 0 where
   pub after : ExpressionState
   pub rest : Tokens
@@ -36,23 +37,27 @@ pub record SomePart (limit : ℕ) (source : List ℕ) (n : Nonterminal) (before 
   pub is_part : IsPart limit source n before after tokens rest tree
 
 module _ {F : Type 0} where
-  -- a target, with the numbers that it means
+  -- the left side of an assignment, with its numbers replaced by those that they mean
   abbrev pub meant_target : (F → Number) → Target F → Syntax Number
   meant_target value target = reference target.at target.name target.suffix (indices_in_numbers value (indices_of (map index_tree target.indices)))
 
   module _ (limit : ℕ) (value : F → Number) (source : List ℕ) where
-    -- what `expression` reads
+    -- the function `expression` reads this expression from a prefix of the first tokens, after
+    -- which the second ones remain; reading goes from the first state to the second
     abbrev pub IsExpression : ExpressionState → ExpressionState → Tokens → Tokens → Expr F → Type 0
     IsExpression = IsRead limit source Expression (λ names labels tree part. in_numbers value (tree_of part) ≡ trees.expression source names labels tree)
 
-    -- what `primary` reads
+    -- the function `primary` reads this expression from a prefix of the first tokens, after which
+    -- the second ones remain; reading goes from the first state to the second
     abbrev pub IsPrimary : ExpressionState → ExpressionState → Tokens → Tokens → Expr F → Type 0
     IsPrimary = IsRead limit source Primary (λ names labels tree part. in_numbers value (tree_of part) ≡ trees.primary source names labels tree)
 
-    -- what `control` reads
+    -- the function `control` reads this control from a prefix of the first tokens, after which the
+    -- second ones remain; reading goes from the first state to the second
     abbrev pub IsControl : ExpressionState → ExpressionState → Tokens → Tokens → Control F → Type 0
     IsControl = IsRead limit source ControlPart (λ names labels tree part. control_in_numbers value (control_tree part) ≡ trees.control source names labels tree)
 
-    -- what `target` reads
+    -- the function `target` reads this left side from a prefix of the first tokens, after which the
+    -- second ones remain; reading goes from the first state to the second
     abbrev pub IsTarget : ExpressionState → ExpressionState → Tokens → Tokens → Target F → Type 0
     IsTarget = IsRead limit source TargetPart (λ names labels tree part. meant_target value part ≡ trees.target source names labels tree)

@@ -1,6 +1,7 @@
--- What a planner asks with a solve, and what an answer says (GAMS User's Guide, "Equations", "Model
--- and Solve Statements"; Chvatal, "Linear Programming", chapters 1, 5 and 9). Plans, equations and
--- bounds, in the values that the language gives to expressions: no rows, matrices, duals or rays.
+-- What a planner asks with a solve, and what an answer states (GAMS User's Guide, "Equations",
+-- "Model and Solve Statements"; Chvatal, "Linear Programming", chapters 1, 5 and 9). Plans,
+-- equations and bounds, in the values that the language gives to expressions: no rows, matrices,
+-- duals or rays.
 use Rattle.std.specs.Prelude.{◌≡◌, ℕ, Bool, true, false, List, [], map, Ok}
 use Rattle.std.specs.List.{All}
 use Rattle.gq_number.specs.Number.{Number}
@@ -39,8 +40,8 @@ pub record Question (F : Type 0) : Type 0 where
   -- the model, and the objective
   pub listed : List Key
 
--- whether the first of two outcomes is better than the second: greater or less, as the direction
--- says
+-- the first outcome is better than the second: greater if the objective is maximized (true),
+-- otherwise less
 abbrev pub IsBetter : Bool → Number → Number → Type 0
 IsBetter true outcome other = other <ℚ outcome
 IsBetter false outcome other = outcome <ℚ other
@@ -62,7 +63,7 @@ module _ {F : Type 0} (number_of : F → Number) (limit : ℕ) (question : Quest
     pub equations : All (Satisfies plan) (definitions_of_model question.statements question.model)
     pub bounds : KeepsBoundsOf question.state plan question.listed
 
-  -- the outcome of a plan: its number for the objective
+  -- the outcome of a plan: its number for the objective variable
   abbrev pub plan_outcome : Plan → Number
   plan_outcome plan = plan (record { symbol = question.objective; tuple = [] })
 
@@ -73,18 +74,17 @@ module _ {F : Type 0} (number_of : F → Number) (limit : ℕ) (question : Quest
 
   -- ---- what an answer says
 
-  -- Levels are of plans with a property: some plan has these levels at the listed elements (so that
-  -- the next part is not empty), and each plan that has them there has the property, whatever its
-  -- levels elsewhere.
+  -- These levels of the listed elements have the property: some plan has them there, and each plan
+  -- that has them there has the property, whatever its levels elsewhere.
   pub record AreLevels (Holds : Plan → Type 0) (levels : List Number) : Type 0 where
     pub some : (plan : Plan) × (map plan question.listed ≡ levels)
     pub each : (plan : Plan) → map plan question.listed ≡ levels → Holds plan
 
-  -- What an answer says of plans; its other parts (levels of rows, duals, a ray) are its
+  -- What an answer states of plans; its other fields (levels of rows, duals, a ray) are its
   -- certificate. Optimal: its levels are optimal. Infeasible: no plan is feasible. Unbounded: its
   -- levels are feasible, and for each number some feasible plan has a better outcome. Interrupted
-  -- (the limit of pivots was met) in phase 2 of the simplex method: its levels are feasible.
-  -- Interrupted in phase 1, or Refused (a number grew beyond the limit): nothing.
+  -- (by the limit of pivots) in phase 2 of the simplex method: its levels are feasible. Interrupted
+  -- in phase 1, or Refused (a number did not fit under the limit): nothing.
   abbrev pub IsSo : End Number → Type 0
   IsSo (Optimal levels row_levels duals reduced) = AreLevels IsOptimal levels
   IsSo (Infeasible duals crossed) = (plan : Plan) → IsFeasible plan → ⊥

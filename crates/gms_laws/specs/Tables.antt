@@ -6,10 +6,11 @@ use Rattle.gms_table.specs.declared.entry.Entry.{Entry}
 use Rattle.gms_table.specs.declared.entry.TableLine.{TableLine}
 use Rattle.gms_table.specs.TableEntries.{IsTable}
 
--- an entry, with the number that it means
+-- an entry of a table, with its value replaced by the number that it means
 abbrev pub meant_entry : {F : Type 0} → (F → Number) → Entry F → Entry Number
 meant_entry value entry = record { at = entry.at; row = entry.row; column = entry.column; value = value entry.value }
 
--- the lines of a table have these entries, and after it these are the labels of the source
+-- the lines of a table have these entries, where `before` are the labels of the source before the
+-- table, and `after` those after it
 abbrev pub HasEntries : ℕ → List TableLine → List (List ℕ) → List (List ℕ) → List (Entry Number) → Type 0
 HasEntries limit lines before after entries = IsTable limit (λ x. x) lines before after entries

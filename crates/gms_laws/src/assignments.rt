@@ -9,13 +9,15 @@ ghost use Rattle.gms_laws.specs.Assignments.{Execution, HasAttribute, IsComplete
 
 use gq_field::ExactField;
 
-/// What the assigned name has at a tuple after an assignment, in a run of an accepted program.
+/// The data of the assigned name at a tuple after an assignment, in a run of an accepted program.
 ///
-/// The left side takes at most one element of its sets to the tuple (`one`). If there is one, the
-/// tuple has the right side under that element: a parameter its value (`value`), a set whether it
-/// is a member (`member`), a variable its value at the attribute that the left side names
-/// (`attribute`). If there is none, the tuple has what it had (`kept`). All values are read in the
-/// state before the assignment. Other names and the settings are as before (`others`, `settings`).
+/// An element has a member of each set of the left side. The left side takes an element to a tuple
+/// if the condition holds for the element and the indices have the labels of the tuple under it. At
+/// most one element is taken to a tuple (`one`). If there is one, the right side under that element
+/// is what the name has at the tuple: a parameter its value (`value`), a set whether the tuple is a
+/// member (`member`), a variable the attribute that the left side names (`attribute`). If there is
+/// none, the data at the tuple are as before (`kept`). All values are read in the state before the
+/// assignment. Other names and the settings are as before (`others`, `settings`).
 ///
 /// GAMS User's Guide, "Data Manipulations with Parameters", indexed assignments; "Dynamic Sets";
 /// "Variables".

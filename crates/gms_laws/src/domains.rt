@@ -12,13 +12,14 @@ ghost use Rattle.gms_laws.specs.Domains.{HasItsMembers, IsWhereItHolds};
 
 use gq_field::ExactField;
 
-/// The domain of a fold, a loop or a left side over sets of one dimension: it is in order, so each
-/// tuple is in it once, and it has exactly the tuples with a member of each set at the set's
-/// position for which the condition holds (GAMS User's Guide, "Data Manipulations with Parameters",
-/// indexed operations; "Conditional Expressions, Assignments and Equations", dollar control).
+/// The domain of a fold, a loop or a left side over sets of one dimension. It is in order, so each
+/// tuple is in it once. It has exactly the tuples that have a member of each set at the position of
+/// that set, and for which the condition holds (GAMS User's Guide, "Data Manipulations with
+/// Parameters", indexed operations; "Conditional Expressions, Assignments and Equations", dollar
+/// control).
 ///
-/// A domain has at most 10 sets. In a state that a run of an accepted program reaches, each set of
-/// a domain is of one dimension.
+/// The laws assume sets of one dimension, as in each state that a run of an accepted program
+/// reaches; `exact` also assumes at most 10 sets, the most that a domain has.
 pub fn domain_laws<F: ExactField>()
     ensures in_order { (state : State) (binding : Pairs) (at : Place) (control : Control F) (found : List (List ℕ)) →
         All (IsSimple state) (sets_of control) → domain F.value F.limit state binding at control ≡ Ok found → IsOrdered found }

@@ -1,5 +1,5 @@
-//! Layer 7, outside. Laws in the subject's words: that what the answers of a run say to a planner
-//! is true; of tokens, expressions, tables, domains, and of the places of names and errors.
+//! Layer 7, outside. Laws in the subject's words: what the answers of a run state to a planner is
+//! true; laws of tokens, expressions, tables, domains, and of the places of names and errors.
 #![tactic(auto)]
 
 mod assignments;

@@ -23,17 +23,18 @@ ghost use Rattle.gms_laws.specs.Modes.{IsInItem, IsExpected, IsAfterElement, IsL
 /// Where in a statement the next token is, by the tokens before it (GAMS User's Guide, "GAMS
 /// Programs", data declarations and lists).
 ///
-/// After a `;` code is read (`code`). After the keyword of a declaration an item begins
-/// (`declaration`, `table`). A word there is the item's name (`name`); a comma or a line end ends
-/// the item, and the next one begins (`item`); a `/` begins its list (`list`), and the `/` after an
-/// element ends it (`list_end`). In a list a comma or a line end ends an element, and the next one
-/// is expected (`element`). A label is followed by the text or value of its element, or joined to
-/// another by a dot or a star (`label`, `joined`).
+/// After a `;` the next token is read as code, that is, outside of declarations (`code`). After the
+/// keyword of a declaration an item begins (`declaration`, `table`). A word there is the item's
+/// name (`name`); a comma or a line end ends the item, and the next one begins (`item`); a `/`
+/// begins its list (`list`), and the `/` after an element ends the list (`list_end`). In a list a
+/// comma or a line end ends an element, and the next one is expected (`element`). A label is
+/// followed by the text or value of its element, or joined to another by a dot or a star (`label`,
+/// `joined`).
 ///
 /// Where a label is expected, each token is a label or a symbol (`labels`), and none is a number
 /// (`never_numbers`): `1990` is a label there. After an element of a parameter a value is expected:
-/// each token there is one of code, as a number (`value`), and after a number the element's value
-/// is complete (`number`).
+/// each token there is read as in code, so that `1990` is a number (`value`), and after a number
+/// the element's value is complete (`number`).
 pub fn mode_laws()
     ensures code { (mode : Mode) (text : List ℕ) → mode_after mode (Token (Symbol Semicolon)) text ≡ Code }
     ensures declaration { (text : List ℕ) (shape : Shape) → keyword_of text ≡ Some (Declarer shape) → mode_after Code (Token Word) text ≡ Item shape }
@@ -64,16 +65,17 @@ pub fn mode_laws()
 /// Where the next token is in a domain, in parentheses of a list, and in a table (GAMS User's
 /// Guide, "GAMS Programs", data declarations, lists and tables).
 ///
-/// A `(` after the name of an item or of a table begins its domain (`domain`), and each token but
-/// `)` and `;` leaves the mode as it is there (`in_domain`), a keyword too; a `)` ends the domain
-/// (`domain_end`). In a list a `(` where a label is expected opens parentheses (`opened`), and a
-/// `)` closes them (`closed`); within them each token is a label or a symbol (`labels`), and after
-/// a comma a label is expected (`comma`). A line end within parentheses ends nothing (`lines`).
+/// A `(` after the name of an item or of a table begins its domain (`domain`). In the domain each
+/// token except `)` and `;`, even a keyword, leaves the mode as it is (`in_domain`); a `)` ends the
+/// domain (`domain_end`). In a list a `(` where a label is expected opens parentheses (`opened`),
+/// and a `)` closes them (`closed`); within them each token is a label or a symbol (`labels`), and
+/// after a comma a label is expected (`comma`). A line end within parentheses ends nothing
+/// (`lines`).
 ///
 /// A word after `table` is the table's name (`table_name`). A text may follow the name or the
 /// domain (`table_text`), and after a line end the lines of the table begin (`table_lines`). After
-/// a line the next one may follow (`table_line`); no line begins with the keyword of a statement
-/// (`never_statements`), which ends the table (`table_end`).
+/// a line the next one may follow (`table_line`). No line of a table begins with the keyword of a
+/// statement (`never_statements`): the keyword of a declaration ends the table (`table_end`).
 pub fn place_laws()
     ensures domain { (named inside after : Mode) (text : List ℕ) →
         HasDomain named inside after → mode_after named (Token (Symbol LeftParen)) text ≡ inside }

@@ -12,12 +12,15 @@ ghost use Rattle.gms_laws.specs.Parts.{Tokens, Derivation, EndAlike, IsExpressio
 
 use gq_field::ExactField;
 
-/// Reading an expression, an operand, a control or a target from tokens has one result or one first
-/// fault: never both, and never neither (GAMS User's Guide, "GAMS Output", compilation errors).
+/// Reading an expression, an operand, a control or a left side from tokens has one result or one
+/// first fault: never both, and never neither (GAMS User's Guide, "GAMS Output", compilation
+/// errors).
 ///
-/// `n` is a nonterminal of the grammar, as that of one of the four calls. `before` is the state
-/// after the tokens before the part, and `after` the one after its tokens; `rest` are the tokens
-/// after it. A result is compared by the numbers that it means, in whatever field they are stored.
+/// `n` is a nonterminal of the grammar; four nonterminals, for an expression, an operand
+/// (`primary`), a control and a left side (`target`), have a function that reads them. `before` is
+/// the state after the tokens before the part, and `after` the one after its tokens; `rest` are the
+/// tokens after it. A result is compared by the numbers that it means, in whatever field they are
+/// stored.
 pub fn part_laws<F: ExactField>()
     ensures one_part { (limit : ℕ) (source : List ℕ) (n : Nonterminal) (before after later : ExpressionState)
         (tokens rest others : Tokens) (one other : Derivation) →

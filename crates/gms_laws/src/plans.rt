@@ -1,4 +1,4 @@
-//! What the answers of whole runs say is true.
+//! What the answers of whole runs state is true.
 ghost use Rattle.std.specs.Prelude.{◌≡◌, ◌++◌, ℕ, List, [], drop, length};
 ghost use Rattle.gq_frac.specs.declared.frac.Frac.{Frac};
 ghost use Rattle.gq_frac.specs.Frac.{frac_value, frac_limit};
@@ -19,16 +19,16 @@ ghost use Rattle.lp_slot.specs.declared.solver.SolverRule.{SolverRule};
 
 use gq_field::ExactField;
 
-/// In the run of an accepted program what each answer says is true of the model as it is written,
-/// with the data at the moment of the solve. *Optimal*: the levels satisfy every equation of the
-/// model, at each element of its sets for which its condition holds, and the bounds of each listed
-/// element of a variable; and no plan that does so has a better objective. *Infeasible*: no plan
-/// does so. *Unbounded*: the levels do so, and for each number some plan that does so has a better
-/// objective than that. *Interrupted* in phase 2: the levels do so.
+/// In the run of an accepted program what each answer states is true of the model as it is written,
+/// with the data at the moment of the solve. A plan gives each element of a variable a number; it
+/// is feasible if it satisfies every equation of the model, at each element of its sets for which
+/// its condition holds, and the bounds of each listed element of a variable. *Optimal*: the levels
+/// are feasible, and no feasible plan has a better objective. *Infeasible*: no plan is feasible.
+/// *Unbounded*: the levels are feasible, and for each number some feasible plan has a better
+/// objective than that. *Interrupted* in phase 2: the levels are feasible.
 ///
-/// A plan gives each element of a variable a number. The listed elements are those that occur in a
-/// row, and the objective. Levels speak of each plan that has them there, with any levels
-/// elsewhere.
+/// The listed elements are those that occur in a row, and the objective. What is stated of levels
+/// holds of each plan that has them at the listed elements, with any levels elsewhere.
 ///
 /// This holds of the run of a program from its start (`start`); of the run of a file from a save,
 /// whose statements are the last ones of the joint program of the saved source and the file

@@ -12,8 +12,8 @@ use gq_field::ExactField;
 /// The lines of a table have one list of entries or one first fault: never both, and never neither
 /// (GAMS User's Guide, "Data Entry: Parameters, Scalars and Tables").
 ///
-/// An entry is compared by the number that it means, in whatever field it is stored. `before` and
-/// `after` are the labels of the source before the table and after it.
+/// An entry is compared by the number that it means, in whatever field it is stored (`seen`).
+/// `before` and `after` are the labels of the source before the table and after it.
 pub fn table_laws<F: ExactField>()
     ensures seen { (lines : List TableLine) (before after : List (List ℕ)) (entries : List (Entry F)) →
         IsTable F.limit F.value lines before after entries → HasEntries F.limit lines before after (map (meant_entry F.value) entries) }

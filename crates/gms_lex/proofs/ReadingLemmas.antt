@@ -32,7 +32,7 @@ misread_within current text m e = subst (IsWithinText text) e (piece_within curr
 BeginsNone-nothing : (current : Mode) → BeginsNone current []
 BeginsNone-nothing current p e = let h = lexeme_within current [] p e in omega arith
 
--- nor where an error stands
+-- nor where an error is
 BeginsNone-misread : (current : Mode) (text : List ℕ) (m : Misread) → piece_at current text ≡ Err m → BeginsNone current text
 BeginsNone-misread current text m e p h = let z : Err m ≡ Ok p = sym e ∙ h in cc
 

@@ -17,38 +17,39 @@ use Rattle.gms_lex.specs.Spellings.{IsText}
 abbrev pub is_space : ℕ → Bool
 is_space b = is_blank b || (b == 10 || b == 13)
 
--- blanks and line ends, or a descriptive text
+-- the text is only blanks and line ends, or it is one descriptive text
 abbrev pub IsSkipped : List ℕ → Type 0
 IsSkipped text = (list_all is_space text ≡ true) ⊎ IsText text
 
--- only blanks, line ends and descriptive texts, in any order
+-- the text is made only of blanks, line ends and descriptive texts, in any order
 abbrev pub AreSkipped : List ℕ → Type 0
 AreSkipped text = (parts : List (List ℕ)) × (text ≡ concat parts) × AllByRecursion IsSkipped parts
 
--- Tokens follow each other in a text, the first at byte `from` or after it, and only blanks, line
--- ends and descriptive texts separate them.
+-- The tokens follow each other in the text, the first at byte `from` or after it, and only blanks,
+-- line ends and descriptive texts separate them.
 abbrev pub AreApart : List ℕ → ℕ → List Token → Type 0
 AreApart text from [] = Unit {0}
 AreApart text from (token ∷ tokens) =
     (from ≤ token.start) × AreSkipped (take (token.start - from) (drop from text)) × AreApart text token.end tokens
 
--- a line end of `bytes` bytes that is a token
+-- the lexeme of a line end of `bytes` bytes that is a token
 abbrev pub break_of : ℕ → Lexeme
 break_of bytes = record { piece = piece.Token Break; length = bytes }
 
--- one line end: a line feed, or a carriage return and a line feed
+-- the text is one line end: a line feed, or a carriage return and a line feed
 abbrev pub IsOneLineEnd : List ℕ → Type 0
 IsOneLineEnd text = (text ≡ 10 ∷ []) ⊎ (text ≡ 13 ∷ 10 ∷ [])
 
--- the byte after all blanks and line ends is one before which a line end ends an item, or an
--- element
+-- a line end of this meaning ends an item, or an element, before the text `following`, which comes
+-- after all blanks and line ends: this text begins with a byte, but not with `/` or `,`, and not
+-- with `;` after an item
 abbrev pub IsEnding : LineEnds → List ℕ → Type 0
 IsEnding Skipped following = ⊥
 IsEnding EndItem following = begins (λ b. not (b == 47 || (b == 44 || b == 59))) following ≡ true
 IsEnding EndElement following = begins (λ b. not (b == 47 || b == 44)) following ≡ true
 
--- A line end with which a text begins is a token in this mode: after a declared name or in a list a
--- line end ends the item, or the element, unless the next byte that is neither blank nor a line end
--- itself ends it, or begins the item's list.
+-- A line end with which a text begins is a token in this mode: after a declared name or in a list
+-- it ends the item, or the element, unless only blanks and line ends follow, or the next other byte
+-- itself ends the item or the element, or begins the item's list.
 abbrev pub IsBreak : Mode → List ℕ → Type 0
 IsBreak mode text = (is_line_end text ≡ true) × IsEnding (line_ends mode) (drop (space_length text) text)

@@ -11,8 +11,8 @@ use Rattle.gms_lex.specs.declared.keyword.Shape.TheVariants.{Set, Parameter, Sca
 use Rattle.gms_lex.specs.declared.keyword.Keyword.{Keyword}
 use Rattle.gms_lex.specs.declared.keyword.Keyword.TheVariants.{Declarer, Table, Other}
 
--- What follows a word that begins a statement: the items of sets, variables and equations are
--- written alike.
+-- What follows the word of this terminal, which begins a statement: items of a declaration, a
+-- table, or code. The items of sets, variables and equations are written alike.
 abbrev pub keyword_as : Terminal → Keyword
 keyword_as terminal.Set = Declarer Set
 keyword_as terminal.Variable = Declarer Set
@@ -23,12 +23,12 @@ keyword_as terminal.Model = Declarer Model
 keyword_as terminal.Table = Table
 keyword_as _ = Other
 
--- the statement keyword of a word, letter case ignored
+-- the statement keyword that a word is, letter case ignored; None if it is none
 unfoldable pub keyword_of : List ℕ → Option Keyword
 keyword_of text = option_map keyword_as (kind_among text statement_words)
 
--- A text begins with an unquoted statement keyword: the longest run of a label's bytes is one, and
--- no dot makes it part of a label.
+-- Whether a text begins with an unquoted statement keyword: the longest run of bytes of a label is
+-- one, and no dot after it makes it part of a label.
 abbrev pub begins_statement : List ℕ → Bool
 begins_statement text =
     let length = prefix_len is_label_byte text in

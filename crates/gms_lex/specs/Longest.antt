@@ -23,8 +23,8 @@ use Rattle.gms_lex.specs.Pieces.{is_item_mark, is_element_mark}
 use Rattle.gms_lex.specs.TokenTexts.{unquoted}
 use Rattle.gms_lex.specs.Spellings.{IsWord, IsLabel, IsQuoted, IsText, IsSymbol, IsNumberSpelling}
 
--- a token of code, followed by `following`: a word, a number, a symbol, or a quoted token of this
--- kind
+-- the text is a piece of code, which `following` follows: a word, a number, a symbol, or a quoted
+-- token of the kind `quoted`
 abbrev pub IsCode : Kind → Piece → List ℕ → List ℕ → Type 0
 IsCode quoted (Token Word) text following = IsWord text
 IsCode quoted (Token Number) text following = IsNumberSpelling text following
@@ -33,33 +33,36 @@ IsCode quoted (Token Text) text following = (quoted ≡ Text) × IsQuoted text
 IsCode quoted (Token Label) text following = (quoted ≡ Label) × IsQuoted text
 IsCode quoted piece text following = ⊥
 
--- a token where an element is expected: a label, unquoted or quoted, or a symbol
+-- the text is this piece, where an element is expected: a label, unquoted or quoted, or a symbol
 abbrev pub IsElementPiece : Piece → List ℕ → Type 0
 IsElementPiece (Token Label) text = IsLabel text ⊎ IsQuoted text
 IsElementPiece (Token (Symbol symbol)) text = IsSymbol symbol text
 IsElementPiece piece text = ⊥
 
--- a symbol that begins with a byte that passes the test, or a descriptive text that does not
+-- the text is this piece: a symbol that begins with a byte that passes the test, or a descriptive
+-- text that begins with another
 abbrev pub IsMarkOrText : (ℕ → Bool) → Piece → List ℕ → Type 0
 IsMarkOrText marks (Token (Symbol symbol)) text = (begins marks text ≡ true) × IsSymbol symbol text
 IsMarkOrText marks Remark text = (begins marks text ≡ false) × IsText text
 IsMarkOrText marks piece text = ⊥
 
--- A token of code after an element of a parameter's list. Directly after the element a dot joins a
--- label, and begins no number.
+-- The text is a token of code, which `following` follows, after an element of a parameter's list.
+-- Directly after the element a dot joins a label, and begins no number.
 abbrev pub IsValuePiece : Stage → Piece → List ℕ → List ℕ → Type 0
 IsValuePiece After (Token Number) text following = IsNumberSpelling text following × (begins_dot text ≡ false)
 IsValuePiece stage piece text following = IsCode Label piece text following
 
--- after an element outside parentheses: a value in a parameter's list; in any other `/`, `,`, `;`,
--- `)`, `*`, `.`, or a text
+-- the text is this piece after an element outside parentheses: in a parameter's list one of a
+-- value; in any other list a symbol that begins with `/`, `,`, `;`, `)`, `*` or `.`, or a
+-- descriptive text that begins with none of these
 abbrev pub IsAfterElementPiece : Shape → Stage → Piece → List ℕ → List ℕ → Type 0
 IsAfterElementPiece Parameter stage piece text following = IsValuePiece stage piece text following
 IsAfterElementPiece Set stage piece text following = IsMarkOrText is_element_mark piece text
 IsAfterElementPiece Scalar stage piece text following = IsMarkOrText is_element_mark piece text
 IsAfterElementPiece Model stage piece text following = IsMarkOrText is_element_mark piece text
 
--- within a list, inside `depth` parentheses
+-- the text is a piece in a list of this shape, inside `depth` parentheses and at this stage of an
+-- element; `following` follows it
 abbrev pub IsInList : Shape → ℕ → Stage → Piece → List ℕ → List ℕ → Type 0
 IsInList shape depth Fresh piece text following = IsElementPiece piece text
 IsInList shape depth Expected piece text following = IsElementPiece piece text
@@ -68,8 +71,8 @@ IsInList shape zero Spaced piece text following = IsAfterElementPiece shape Spac
 IsInList shape (suc depth) After piece text following = IsElementPiece piece text
 IsInList shape (suc depth) Spaced piece text following = IsElementPiece piece text
 
--- The first n bytes of a text, among the lines of a table: all of the line up to the `;` that ends
--- the table; if that `;` or a statement begins, a token of code.
+-- The first n bytes of the text are this piece, among the lines of a table: all of the line up to
+-- the `;` that ends the table; or a token of code, if that `;` or a statement begins here.
 abbrev pub IsOfTable : List ℕ → Piece → ℕ → Type 0
 IsOfTable text (Token TableLine) n = (begins_statement text ≡ false) × (0 < n) × (n ≡ table_bytes (content text))
 IsOfTable text piece n =
@@ -87,7 +90,7 @@ IsAllowedPiece (Tail shape) text piece n = IsCode Label piece (take n text) (dro
 IsAllowedPiece TableLines text piece n = IsOfTable text piece n
 IsAllowedPiece current text piece n = IsCode Text piece (take n text) (drop n text)
 
--- a piece with a text: each except blanks and line ends
+-- whether a piece is a token or a descriptive text, and no blanks and no line end
 abbrev pub has_text : Piece → Bool
 has_text Gap = false
 has_text LineEnd = false
@@ -100,15 +103,15 @@ pub record IsLongest (mode : Mode) (text : List ℕ) (p : Lexeme) : Type 0 where
   pub allowed : IsAllowedPiece mode text p.piece p.length
   pub longest : (other : Piece) (n : ℕ) → n ≤ length text → IsAllowedPiece mode text other n → n ≤ p.length
 
--- No token is this piece at the start of a text: a word or a label has over 63 bytes, quotation
--- marks not counted; or the byte at the error is not ASCII.
+-- The piece at the start of a text is no token, because of this error: it has over 63 bytes,
+-- quotation marks not counted (LongLabel), or its byte at the error is not ASCII (BadByte).
 abbrev pub IsUnlawful : Lexeme → List ℕ → Misread → Type 0
 IsUnlawful p text misread =
     ((misread.error ≡ LongLabel) × (longest_label < length (unquoted (take p.length text))))
     ⊎ ((misread.error ≡ BadByte) × (misread.ahead < p.length) × (127 < get_or text misread.ahead 0))
 
--- an error instead of a piece: the mode allows none there, or the longest that it allows is no
--- token
+-- there is an error instead of a piece: the mode allows no piece there, or the longest that it
+-- allows is an unlawful token
 abbrev pub IsRefusedPiece : Mode → List ℕ → Misread → Type 0
 IsRefusedPiece mode text misread =
     ((other : Piece) (n : ℕ) → n ≤ length text → IsAllowedPiece mode text other n → ⊥)

@@ -17,27 +17,27 @@ use Rattle.gms_lex.specs.declared.mode.Mode.{Mode}
 use Rattle.gms_lex.specs.declared.mode.Mode.TheVariants.{Code, Item, Named, Domain, Bare, Rest, Element, Value, Tail, TableName, TableNamed, TableDomain, TableBare, TableTexted, TableLines}
 use Rattle.gms_lex.specs.Keywords.{keyword_of}
 
--- where a list begins, and where it continues after a comma: an element is expected in a list of a
--- set or a parameter, a value in others
+-- the mode where a list begins, and where it continues after a comma: an element is expected in a
+-- list of a set or a parameter, a value in others
 abbrev pub list_start : Shape → Mode
 list_start Set = Element Set 0 Fresh
 list_start Parameter = Element Parameter 0 Fresh
 list_start Scalar = Value Scalar
 list_start Model = Value Model
 
--- what a statement keyword begins, or the mode without one
+-- the mode that a statement keyword begins; the given mode without a keyword
 abbrev pub begun_by : Option Keyword → Mode → Mode
 begun_by (Some (Declarer shape)) current = Item shape
 begun_by (Some Table) current = TableName
 begun_by (Some Other) current = Code
 begun_by None current = current
 
--- the mode after an element, or after a token that is where an element is expected: outside
--- parentheses its text or value comes next, within them the list continues
+-- the mode after a token that follows an element and does not continue it: outside parentheses its
+-- text or value has begun, within them the list continues
 abbrev pub after_element : Shape → ℕ → Mode
 after_element shape depth = if depth == 0 then Tail shape else Element shape depth After
 
--- after a token that is no symbol, no line end and no keyword
+-- the mode after a token that is no symbol, no line end and no keyword
 abbrev pub after_plain : Mode → Mode
 after_plain (Element shape depth Fresh) = Element shape depth After
 after_plain (Element shape depth Expected) = Element shape depth After
@@ -49,7 +49,8 @@ after_plain TableTexted = Code
 after_plain TableLines = Code
 after_plain current = current
 
--- after a word: a keyword begins a statement, but not within a domain or a list
+-- the mode after a word: a keyword begins a statement, but not within a domain or a list; any other
+-- word where the name of an item or a table is expected is that name
 abbrev pub after_word : Mode → List ℕ → Mode
 after_word Code word = begun_by (keyword_of word) Code
 after_word (Item shape) word = begun_by (keyword_of word) (Named shape)
@@ -59,17 +60,17 @@ after_word TableTexted word = begun_by (keyword_of word) Code
 after_word TableLines word = begun_by (keyword_of word) Code
 after_word current word = after_plain current
 
--- after a symbol of an item of a declaration, outside its domain and its list
+-- the mode after a symbol in an item of a declaration, outside its domain and its list
 abbrev pub after_item_symbol : Shape → Sym → Mode → Mode
 after_item_symbol shape Slash current = list_start shape
 after_item_symbol shape Comma current = Item shape
 after_item_symbol shape symbol current = current
 
--- after a comma of a list
+-- the mode after a comma of a list, inside `depth` parentheses
 abbrev pub after_comma : Shape → ℕ → Mode
 after_comma shape depth = if depth == 0 then list_start shape else Element shape depth Expected
 
--- after a symbol where an element is expected
+-- the mode after a symbol where an element is expected
 abbrev pub after_expected_symbol : Shape → ℕ → Sym → Mode
 after_expected_symbol shape depth LeftParen = Element shape (depth + 1) Expected
 after_expected_symbol shape depth RightParen = Element shape (depth - 1) After
@@ -77,7 +78,7 @@ after_expected_symbol shape depth Comma = after_comma shape depth
 after_expected_symbol shape depth Slash = Rest shape
 after_expected_symbol shape depth symbol = Element shape depth Expected
 
--- after a symbol that follows an element: a dot joins the next label, a star makes a range
+-- the mode after a symbol that follows an element: a dot joins the next label, a star makes a range
 abbrev pub after_element_symbol : Shape → ℕ → Sym → Mode
 after_element_symbol shape depth RightParen = Element shape (depth - 1) After
 after_element_symbol shape depth Comma = after_comma shape depth
@@ -88,43 +89,43 @@ after_element_symbol shape depth Star = Element shape depth Expected
 after_element_symbol shape depth Power = Element shape depth Expected
 after_element_symbol shape depth symbol = after_element shape depth
 
--- after a closing parenthesis where a text or value has begun
+-- the mode after a closing parenthesis where a text or value has begun
 abbrev pub after_stray_paren : Shape → Mode
 after_stray_paren Set = Element Set 0 After
 after_stray_paren Parameter = Element Parameter 0 After
 after_stray_paren Scalar = Tail Scalar
 after_stray_paren Model = Tail Model
 
--- after a symbol where a text or value is expected or has begun
+-- the mode after a symbol where a text or value is expected or has begun
 abbrev pub after_tail_symbol : Shape → Sym → Mode
 after_tail_symbol shape Slash = Rest shape
 after_tail_symbol shape Comma = list_start shape
 after_tail_symbol shape RightParen = after_stray_paren shape
 after_tail_symbol shape symbol = Tail shape
 
--- after a symbol of an item's name: its domain begins
+-- the mode after a symbol that follows an item's name: `(` begins its domain
 abbrev pub after_name_symbol : Shape → Sym → Mode
 after_name_symbol shape LeftParen = Domain shape
 after_name_symbol shape symbol = after_item_symbol shape symbol (Named shape)
 
--- after a symbol of a domain: it may end
+-- the mode after a symbol in a domain: `following` if the symbol ends the domain, else `inside`
 abbrev pub after_domain_symbol : Sym → Mode → Mode → Mode
 after_domain_symbol RightParen inside following = following
 after_domain_symbol symbol inside following = inside
 
--- after a symbol of a table's name: its domain begins
+-- the mode after a symbol that follows a table's name: `(` begins its domain
 abbrev pub after_table_symbol : Sym → Mode
 after_table_symbol LeftParen = TableDomain
 after_table_symbol symbol = Code
 
--- after a symbol in a list where an element is expected or has begun
+-- the mode after a symbol in a list where an element is expected or has begun
 abbrev pub after_list_symbol : Shape → ℕ → Stage → Sym → Mode
 after_list_symbol shape depth Fresh symbol = after_expected_symbol shape depth symbol
 after_list_symbol shape depth Expected symbol = after_expected_symbol shape depth symbol
 after_list_symbol shape depth After symbol = after_element_symbol shape depth symbol
 after_list_symbol shape depth Spaced symbol = after_element_symbol shape depth symbol
 
--- after any symbol but `;`
+-- the mode after any symbol but `;`
 abbrev pub after_symbol : Mode → Sym → Mode
 after_symbol Code symbol = Code
 after_symbol (Item shape) symbol = Item shape
@@ -142,7 +143,7 @@ after_symbol TableBare symbol = Code
 after_symbol TableTexted symbol = Code
 after_symbol TableLines symbol = Code
 
--- after a line end that is a token: the next item, or the next element of a list
+-- the mode after a line end that is a token: the next item, or the next element of a list
 abbrev pub after_break : Mode → Mode
 after_break (Named shape) = Item shape
 after_break (Bare shape) = Item shape
@@ -151,7 +152,7 @@ after_break (Element shape depth stage) = list_start shape
 after_break (Tail shape) = list_start shape
 after_break current = current
 
--- after a token; a `;` ends every statement
+-- the mode after a token; a `;` ends every statement
 abbrev pub after_token : Mode → Kind → List ℕ → Mode
 after_token current (Symbol Semicolon) text = Code
 after_token current (Symbol symbol) text = after_symbol current symbol
@@ -163,19 +164,19 @@ after_token current Number text = after_plain current
 after_token current Text text = after_plain current
 after_token current End text = after_plain current
 
--- after blanks
+-- the mode after blanks
 abbrev pub after_gap : Mode → Mode
 after_gap (Element shape depth After) = Element shape depth Spaced
 after_gap current = current
 
--- after line ends that are no token: the lines of a table begin
+-- the mode after line ends that are no token: the lines of a table begin
 abbrev pub after_line : Mode → Mode
 after_line TableNamed = TableLines
 after_line TableBare = TableLines
 after_line TableTexted = TableLines
 after_line current = current
 
--- after a descriptive text
+-- the mode after a descriptive text
 abbrev pub after_remark : Mode → Mode
 after_remark (Named shape) = Rest shape
 after_remark (Bare shape) = Rest shape
@@ -184,7 +185,7 @@ after_remark TableNamed = TableTexted
 after_remark TableBare = TableTexted
 after_remark current = current
 
--- the mode after a piece of these bytes
+-- the mode after a piece, from the mode before it; `text` has the bytes of the piece
 abbrev pub mode_after : Mode → Piece → List ℕ → Mode
 mode_after current Gap text = after_gap current
 mode_after current LineEnd text = after_line current

@@ -19,12 +19,12 @@ use Rattle.gms_lex.specs.declared.mode.LineEnds.{LineEnds}
 use Rattle.gms_lex.specs.declared.mode.LineEnds.TheVariants.{Skipped, EndItem, EndElement}
 use Rattle.gms_lex.specs.Keywords.{begins_statement}
 
--- what a line end means after an element of a list, or where one is expected: within parentheses
--- nothing
+-- what a line end means in an element that has begun: it ends the element outside parentheses, and
+-- means nothing within them
 abbrev pub element_line_ends : ℕ → LineEnds
 element_line_ends depth = if depth == 0 then EndElement else Skipped
 
--- what a line end means in a list
+-- what a line end means in a list, inside `depth` parentheses and at this stage of an element
 abbrev pub list_line_ends : ℕ → Stage → LineEnds
 list_line_ends depth Fresh = Skipped
 list_line_ends depth Expected = element_line_ends depth
@@ -40,19 +40,19 @@ line_ends (Element shape depth stage) = list_line_ends depth stage
 line_ends (Tail shape) = EndElement
 line_ends current = Skipped
 
--- a byte before which a line end ends nothing: one that itself ends the item, or the element, or
--- begins the item's list
+-- whether a line end of this meaning ends nothing before the byte: the byte itself ends the item,
+-- or the element, or begins the item's list
 abbrev pub passes : LineEnds → ℕ → Bool
 passes EndItem b = b == 47 || (b == 44 || b == 59)
 passes EndElement b = b == 47 || b == 44
 passes Skipped b = true
 
--- the text ends, or continues with a byte that passes the test
+-- whether the text is empty, or begins with a byte that passes the test
 abbrev pub ends_or_begins : (ℕ → Bool) → List ℕ → Bool
 ends_or_begins test [] = true
 ends_or_begins test (b ∷ text) = test b
 
--- a text begins with neither a blank nor a line end
+-- whether a text begins with neither a blank nor a line end; true of the empty text
 abbrev pub begins_other : List ℕ → Bool
 begins_other text = not (begins is_blank text || is_line_end text)
 
@@ -60,27 +60,27 @@ begins_other text = not (begins is_blank text || is_line_end text)
 abbrev pub space_length : List ℕ → ℕ
 space_length text = before begins_other text
 
--- how many bytes one line end takes
+-- how many bytes the line end takes with which a text begins
 abbrev pub line_end_length : List ℕ → ℕ
 line_end_length text = if begins (λ b. b == 13) text then 2 else 1
 
--- A line end with which a text begins. If it may end an item or an element, it does so unless the
--- text ends after it and all blank lines, or continues with a byte that passes; then all that is
--- blank is one piece.
+-- The piece of a line end with which a text begins. If it may end an item or an element, it does so
+-- unless the text ends after all blanks and line ends, or continues with a byte that passes; then
+-- all these blanks and line ends are one piece.
 abbrev pub line_end : LineEnds → List ℕ → Read
 line_end Skipped text = lexeme LineEnd (line_end_length text)
 line_end EndItem text = if ends_or_begins (passes EndItem) (drop (space_length text) text) then lexeme LineEnd (space_length text) else lexeme (Token Break) (line_end_length text)
 line_end EndElement text = if ends_or_begins (passes EndElement) (drop (space_length text) text) then lexeme LineEnd (space_length text) else lexeme (Token Break) (line_end_length text)
 
--- a byte that ends an item, or begins its list
+-- a byte that ends an item, or begins its list: `/`, `,` or `;`
 abbrev pub is_item_mark : ℕ → Bool
 is_item_mark b = b == 47 || (b == 44 || b == 59)
 
--- after an item's name: its domain, its list, its end, or its text
+-- the piece after an item's name: its domain, its list, its end, or its text
 abbrev pub piece_after_name : List ℕ → Read
 piece_after_name text = if begins (λ b. b == 40 || is_item_mark b) text then symbol text else remark text
 
--- after an item's domain
+-- the piece after an item's domain
 abbrev pub piece_after_domain : List ℕ → Read
 piece_after_domain text = if begins is_item_mark text then symbol text else remark text
 
@@ -88,32 +88,32 @@ piece_after_domain text = if begins is_item_mark text then symbol text else rema
 abbrev pub is_element_mark : ℕ → Bool
 is_element_mark b = is_item_mark b || (b == 41 || (b == 42 || b == 46))
 
--- a dot that begins a number: in a parameter's list outside parentheses, after a blank and before a
--- digit
+-- whether a text begins with the dot of a number: in a parameter's list outside parentheses, after
+-- a blank and before a digit
 abbrev pub begins_value_dot : Shape → ℕ → Stage → List ℕ → Bool
 begins_value_dot Parameter depth Spaced text = depth == 0 && (begins_dot text && begins is_ascii_digit (drop 1 text))
 begins_value_dot shape depth stage text = false
 
--- the text or value of an element
+-- the piece of the text or value of an element, in a list of this shape
 abbrev pub element_tail : Shape → List ℕ → Read
 element_tail Parameter text = code_token Label text
 element_tail Set text = remark text
 element_tail Scalar text = remark text
 element_tail Model text = remark text
 
--- after an element of a list
+-- the piece after an element of a list
 abbrev pub piece_after_label : Shape → ℕ → Stage → List ℕ → Read
 piece_after_label shape depth stage text =
     if begins is_element_mark text && not (begins_value_dot shape depth stage text) then symbol text else (if depth == 0 then element_tail shape text else label_token text)
 
--- the piece in a list, by the stage of its element
+-- the piece at the start of a text in a list, inside `depth` parentheses and at this stage
 abbrev pub in_list : Shape → ℕ → Stage → List ℕ → Read
 in_list shape depth Fresh text = label_token text
 in_list shape depth Expected text = label_token text
 in_list shape depth After text = piece_after_label shape depth After text
 in_list shape depth Spaced text = piece_after_label shape depth Spaced text
 
--- the piece at a byte that is no blank and no line end
+-- the piece at the start of a text that begins with neither a blank nor a line end
 abbrev pub token_read : Mode → List ℕ → Read
 token_read (Named shape) text = piece_after_name text
 token_read TableNamed text = piece_after_name text
@@ -124,8 +124,9 @@ token_read (Value shape) text = code_token Label text
 token_read (Tail shape) text = code_token Label text
 token_read current text = code_token Text text
 
--- The first piece where the lines of a table may continue; `blanks` bytes are blank and `bytes`
--- belong to the table. A statement keyword ends the table, and so does a `;`.
+-- The first piece where the lines of a table may continue; the text begins with `blanks` blanks,
+-- and the first `bytes` bytes of its line are of the table, which a statement keyword or a `;`
+-- ends.
 abbrev pub table_piece_of : ℕ → ℕ → List ℕ → Read
 table_piece_of blanks bytes text =
     if nat_lt 0 blanks && (nat_le bytes blanks || begins_statement (drop blanks text)) then lexeme Gap blanks else (if bytes == 0 || begins_statement text then code_token Text text else table_line bytes text)
@@ -135,12 +136,12 @@ abbrev pub table_piece : List ℕ → Read
 table_piece text =
     if is_line_end text then lexeme LineEnd (line_end_length text) else table_piece_of (prefix_len is_blank text) (table_bytes (content text)) text
 
--- the first piece in any other mode
+-- the first piece of a text in any other mode
 abbrev pub plain_piece : Mode → List ℕ → Read
 plain_piece current text =
     if begins is_blank text then lexeme Gap (prefix_len is_blank text) else (if is_line_end text then line_end (line_ends current) text else token_read current text)
 
--- the first piece of a text
+-- the first piece of a text in this mode, or the error instead of one
 abbrev pub piece_at : Mode → List ℕ → Read
 piece_at TableLines text = table_piece text
 piece_at current text = plain_piece current text

@@ -7,19 +7,20 @@ use Rattle.gms_grammar.specs.Columns.{column_after}
 abbrev pub source_start : Place
 source_start = record { line = 1; column = 1 }
 
--- The place after a byte. A line feed goes to the next line.
+-- the place of the byte that follows the byte b at the place `at`: on the next line after a line
+-- feed, otherwise in a later column
 abbrev pub place_after : Place → ℕ → Place
 place_after at b =
     if b == 10 then record { line = at.line + 1; column = 1 } else record { line = at.line; column = column_after at.column b }
 
--- the place after these bytes
+-- the place after these bytes, of which `at` is the place of the first
 abbrev pub place_after_bytes : Place → List ℕ → Place
 place_after_bytes at bytes = fold place_after at bytes
 
--- the place of a byte of a source, or of its end
+-- the place of the byte n of a source, counted from 0, or of the source's end
 abbrev pub place_of_byte : List ℕ → ℕ → Place
 place_of_byte source n = place_after_bytes source_start (take n source)
 
--- one place comes before another: on an earlier line, or before it on the same line
+-- the place p is before q: on an earlier line, or in an earlier column of the same line
 abbrev pub IsEarlier : Place → Place → Type 0
 IsEarlier p q = (p.line < q.line) ⊎ ((p.line ≡ q.line) × (p.column < q.column))

@@ -9,16 +9,16 @@ use Rattle.gms_grammar.specs.Bytes.{is_name_byte, is_label_byte, is_quote, is_te
 use Rattle.gms_grammar.specs.Numbers.{begins_dot, is_sign}
 use Rattle.gms_grammar.specs.Symbols.{written_symbol}
 
--- a word: a letter, then letters, digits and `_`
+-- the text is a word: a letter, then letters, digits and `_`
 abbrev pub IsWord : List ℕ → Type 0
 IsWord text = (begins is_ascii_alphabetic text ≡ true) × (list_all is_name_byte text ≡ true)
 
--- an unquoted label: a letter or a digit, then letters, digits, `+`, `-` and `_`
+-- the text is an unquoted label: a letter or a digit, then letters, digits, `+`, `-` and `_`
 abbrev pub IsLabel : List ℕ → Type 0
 IsLabel text = (begins is_ascii_alphanumeric text ≡ true) × (list_all is_label_byte text ≡ true)
 
--- a quoted text: a quotation mark, and the same mark again, with neither it nor a line feed between
--- the two
+-- The text is quoted: a quotation mark, bytes that are neither this mark nor a line feed, and the
+-- same mark again.
 pub record IsQuoted (text : List ℕ) : Type 0 where
   pub mark : ℕ
   pub inner : List ℕ
@@ -26,41 +26,41 @@ pub record IsQuoted (text : List ℕ) : Type 0 where
   pub free : list_all (λ b. not (b == mark || b == 10)) inner ≡ true
   pub spelled : text ≡ mark ∷ (inner ++ mark ∷ [])
 
--- an unquoted descriptive text: at least one byte, none of them `/`, `,`, `;`, a line feed or a
--- carriage return
+-- an unquoted descriptive text: at least one byte, the first no quotation mark, and none of them
+-- `/`, `,`, `;`, a line feed or a carriage return
 abbrev pub IsUnquotedText : List ℕ → Type 0
 IsUnquotedText text = (0 < length text) × (begins is_quote text ≡ false) × (list_all is_text_byte text ≡ true)
 
--- a descriptive text
+-- the text is a descriptive text: a quoted or an unquoted one
 abbrev pub IsText : List ℕ → Type 0
 IsText text = IsQuoted text ⊎ IsUnquotedText text
 
--- a symbol as it is written, letter case ignored
+-- the text is this symbol as it is written, letter case ignored
 abbrev pub IsSymbol : Sym → List ℕ → Type 0
 IsSymbol symbol text = str_eq_ignore_ascii_case text (written_symbol symbol) ≡ true
 
--- at least one digit, and nothing else
+-- the text is one or more digits
 abbrev pub AreSomeDigits : List ℕ → Type 0
 AreSomeDigits text = (begins is_ascii_digit text ≡ true) × (list_all is_ascii_digit text ≡ true)
 
--- the dot of a number with any digits after it; or nothing
+-- the text is a dot with any digits after it, or empty
 abbrev pub IsPoint : List ℕ → Type 0
 IsPoint [] = Unit {0}
 IsPoint (b ∷ digits) = (b ≡ 46) × (list_all is_ascii_digit digits ≡ true)
 
--- a power of ten: an optional sign, and digits
+-- the text is an optional sign and one or more digits
 abbrev pub IsPower : List ℕ → Type 0
 IsPower [] = ⊥
 IsPower (b ∷ digits) = AreSomeDigits (b ∷ digits) ⊎ ((is_sign b ≡ true) × AreSomeDigits digits)
 
--- the exponent of a number: `e` and a power of ten; or nothing
+-- the text is `e` or `E` and digits with an optional sign, or empty
 abbrev pub IsExponentSpelling : List ℕ → Type 0
 IsExponentSpelling [] = Unit {0}
 IsExponentSpelling (b ∷ power) = ((b == 101 || b == 69) ≡ true) × IsPower power
 
--- A number followed by `following`: digits, a dot that digits may follow, and an exponent, of which
--- each may be absent; there is a digit before the exponent. A dot without digits is not followed by
--- another dot.
+-- The text is a number that `following` follows: digits, a dot that digits may follow, and an
+-- exponent, of which each may be absent; there is a digit before the exponent. A dot without digits
+-- is not followed by another dot.
 pub record IsNumberSpelling (text following : List ℕ) : Type 0 where
   pub whole : List ℕ
   pub point : List ℕ

@@ -14,14 +14,14 @@ use Rattle.gms_lex.specs.Places.{place_of_byte}
 abbrev pub token_text : List ℕ → Token → List ℕ
 token_text source token = take (token.end - token.start) (drop token.start source)
 
--- a quoted token without its marks; any other as it is
+-- the bytes of a quoted token without its quotation marks; those of any other token as they are
 abbrev pub unquoted : List ℕ → List ℕ
 unquoted [] = []
 unquoted (b ∷ text) = if is_quote b then take (length text - 1) text else b ∷ text
 
--- Words, labels, quoted texts and lines of tables are ASCII. Words and labels have at most 63
--- bytes, quotation marks not counted; a quoted text begins with its mark; a line of a table has no
--- more bytes than any line.
+-- A token of this kind may have these bytes. Words, labels, quoted texts and lines of tables are
+-- ASCII. Words and labels have at most 63 bytes, quotation marks not counted; a quoted text begins
+-- with its mark; a line of a table is no longer than a line may be.
 abbrev pub IsSpelled : Kind → List ℕ → Type 0
 IsSpelled Word text = IsAscii text × (length text ≤ longest_label)
 IsSpelled Label text = IsAscii text × (length (unquoted text) ≤ longest_label)
@@ -32,7 +32,7 @@ IsSpelled Break text = Unit {0}
 IsSpelled TableLine text = IsAscii text × (length text ≤ longest_line)
 IsSpelled End text = Unit {0}
 
--- a token takes bytes of the source, has the place of the first, and is spelled as its kind
+-- A token takes bytes of the source, its place is that of the first, and it is spelled as its kind.
 pub record IsPlaced (source : List ℕ) (token : Token) : Type 0 where
   pub starts : token.start ≤ token.end
   pub ends : token.end ≤ length source

@@ -21,30 +21,31 @@ use Rattle.gms_lex.specs.Modes.{mode_after}
 use Rattle.gms_lex.specs.Pieces.{piece_at}
 use Rattle.gms_lex.specs.Places.{place_of_byte}
 
--- how many bytes a source may have
+-- the greatest number of bytes of a source
 abbrev pub most_source_bytes : ℕ
 most_source_bytes = 1048576
 
--- The text begins with these pieces, each the longest of its mode at its start; the pieces before
--- it determine the mode. The rest follows them, in the mode `last`.
+-- The text, read from `mode` on, begins with these pieces, each the longest that its mode allows;
+-- the pieces before a piece determine its mode. After them the mode is `last`, and `rest` remains.
 abbrev pub IsMadeOf : Mode → List ℕ → List Lexeme → Mode → List ℕ → Type 0
 IsMadeOf mode text [] last rest = (last ≡ mode) × (rest ≡ text)
 IsMadeOf mode text (p ∷ pieces) last rest =
     (piece_at mode text ≡ Ok p) × IsMadeOf (mode_after mode p.piece (take p.length text)) (drop p.length text) pieces last rest
 
--- how many bytes pieces take
+-- how many bytes pieces take together
 abbrev pub bytes_of_pieces : List Lexeme → ℕ
 bytes_of_pieces [] = 0
 bytes_of_pieces (p ∷ pieces) = p.length + bytes_of_pieces pieces
 
--- the token of a piece, which takes these bytes and has this place
+-- the token of a piece, if it is one, with the place `at`; it takes the bytes of the source from
+-- `start` to before `end`
 abbrev pub token_at : Place → Piece → ℕ → ℕ → List Token
 token_at at (piece.Token kind) start end = record { kind = kind; start = start; end = end; at = at } ∷ []
 token_at at piece.Gap start end = []
 token_at at piece.LineEnd start end = []
 token_at at piece.Remark start end = []
 
--- the tokens among pieces, of which the first begins at this byte of the source
+-- the tokens among the pieces, of which the first begins at byte `start` of the source
 abbrev pub tokens_of : List ℕ → ℕ → List Lexeme → List Token
 tokens_of source start [] = []
 tokens_of source start (p ∷ pieces) = token_at (place_of_byte source start) p.piece start (start + p.length) ++ tokens_of source (start + p.length) pieces
@@ -61,8 +62,8 @@ pub record HasTokens (source text : List ℕ) (tokens : List Token) : Type 0 whe
   pub made : IsMadeOf Code text pieces last []
   pub tokens_are : tokens ≡ tokens_of source 0 pieces ++ end_token source ∷ []
 
--- Pieces lead to a byte of the text with this error instead of a piece, or to `ahead` bytes before
--- the error.
+-- The text is read piece by piece up to a rest that is not empty and begins with no piece. The
+-- fault is the error of that rest, `misread.ahead` bytes after its start.
 pub record StopsAt (text : List ℕ) (fault : ByteFault) : Type 0 where
   pub pieces : List Lexeme
   pub last : Mode
@@ -74,28 +75,29 @@ pub record StopsAt (text : List ℕ) (fault : ByteFault) : Type 0 where
   pub at : fault.at ≡ bytes_of_pieces pieces + misread.ahead
   pub error : fault.error ≡ misread.error
 
--- A lexical error at this byte of the source: an error of a line, or one where a token is expected.
+-- The source has a lexical error at this byte: an error of a line, or one where a piece is
+-- expected.
 abbrev pub IsByteFault : List ℕ → ByteFault → Type 0
 IsByteFault source fault = IsLineFault source fault ⊎ StopsAt (code_text source) fault
 
--- these are the tokens of a source without lexical errors
+-- These are the tokens of the source, which has no lexical error.
 pub record IsTokens (source : List ℕ) (tokens : List Token) : Type 0 where
   pub sound : (fault : ByteFault) → IsByteFault source fault → ⊥
   pub has : HasTokens source (code_text source) tokens
 
--- this is the first lexical error of the source, by place and then by number
+-- This is the first lexical error of the source, by place and then by number.
 pub record IsLexFault (source : List ℕ) (fault : LexFault) : Type 0 where
   pub byte : ℕ
   pub at : fault.at ≡ place_of_byte source byte
   pub occurs : IsByteFault source record { at = byte; error = fault.error }
   pub first : (other : ByteFault) → IsByteFault source other → IsBefore record { at = byte; error = fault.error } other
 
--- the meaning of a source for a reader of tokens: its tokens, or its first fault
+-- the meaning of a source as tokens: its tokens, or its first lexical error
 abbrev pub Means : List ℕ → Result (List Token) LexFault → Type 0
 Means source (Ok tokens) = IsTokens source tokens
 Means source (Err fault) = IsLexFault source fault
 
--- an answer in place of tokens: the first fault of the source, or out of memory
+-- the result in place of tokens is right: the first fault of the source, or out of memory
 abbrev pub IsLexRefusal : List ℕ → LexFaultOrMemory → Type 0
 IsLexRefusal source (Fault fault) = IsLexFault source fault
 IsLexRefusal source Memory = Unit {0}

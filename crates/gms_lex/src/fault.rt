@@ -11,9 +11,9 @@ use thiserror::Error;
 #[derive(Clone, Copy, Debug, Error)]
 #[error("{at}: {code} {name}: {error}", code = .error.code(), name = .error.name())]
 pub struct LexFault {
-    /// The error.
+    /// Which lexical error occurs.
     pub error: LexError,
-    /// Where it occurs.
+    /// The line and column in the source at which the error occurs.
     pub at: Place,
 }
 

@@ -4,7 +4,7 @@ ghost use Rattle.gms_lex.specs.Keywords.{keyword_as, keyword_of, begins_statemen
 
 use gms_grammar::{Terminal, label_length, statement_word};
 
-/// How the items of a declaration are written.
+/// How the items of a declaration are written, in particular what a list between slashes has.
 #[derive(Clone, Copy)]
 pub enum Shape {
     /// Sets, and also variables and equations: a list has elements with texts.
@@ -17,7 +17,7 @@ pub enum Shape {
     Model,
 }
 
-/// A word that begins a statement, by what follows it.
+/// What kind of text follows a word that begins a statement.
 #[derive(Clone, Copy)]
 pub enum Keyword {
     /// Items of this shape follow.

@@ -13,17 +13,19 @@ ghost use Rattle.gms_lex.specs.Places.{IsEarlier, place_of_byte};
 ghost use Rattle.gms_lex.specs.Tokens.{Means, IsTokens};
 ghost use Rattle.gms_lex.specs.TokenTexts.{IsPlaced};
 
-/// Each source has exactly one list of tokens or exactly one first fault, and not both; its places
-/// come in the order of its bytes.
+/// Each source has either exactly one list of tokens or exactly one first fault. The places of
+/// tokens come in the order of their bytes.
 ///
-/// Each token except line ends and the end of the source, and each descriptive text, is the longest
-/// that its mode allows there: `**` is one token and not two `*`, in code and in lists. There is an
-/// error instead of a token only if the mode allows nothing there, or the longest that it allows is
-/// a word or a label of over 63 bytes, or has a byte that is not ASCII. Only blanks, line ends,
-/// comments, control lines and descriptive texts separate two neighbouring tokens; comments and
-/// control lines are blank in the text from which tokens are read. A line end is a token exactly if
-/// it ends an item of a declaration or an element of a list. GAMS User's Guide, "Language Items"
-/// and "GAMS Programs".
+/// The tokens before a place determine the mode there, which says what tokens may follow. Each
+/// token except line ends and the end of the source, and each descriptive text, is the longest that
+/// its mode allows: `**` is one token and not two `*`, in code and in lists. There is an error
+/// instead of a token only if the mode allows nothing there, or if the longest text that it allows
+/// is a word or a label of over 63 bytes, or has a byte that is not ASCII.
+///
+/// Only blanks, line ends, comments, control lines and descriptive texts separate two neighbouring
+/// tokens; comments and control lines are blank in the text from which tokens are read. A line end
+/// is a token exactly if it ends an item of a declaration or an element of a list. GAMS User's
+/// Guide, "Language Items" and "GAMS Programs".
 pub fn token_laws()
     ensures there_is_one { (source : List ℕ) → (meaning : Result (List Token) LexFault) × Means source meaning }
     ensures only_one { (source : List ℕ) (one other : Result (List Token) LexFault) →
@@ -41,9 +43,10 @@ pub fn token_laws()
         IsBreak mode text → (bytes : ℕ) × (piece_at mode text ≡ Ok (break_of bytes)) }
 {}
 
-/// Each token takes bytes of its source and has the place of the first. Words, labels, quoted texts
-/// and lines of tables are ASCII. Words and labels have at most 63 bytes, quotation marks not
-/// counted; a quoted text begins with its mark; a line of a table has no more bytes than any line.
+/// Each token consists of bytes of its source and has the place of the first of them. Words,
+/// labels, quoted texts and lines of tables are ASCII. Words and labels have at most 63 bytes
+/// without their quotation marks; a quoted text begins with its quotation mark; a line of a table
+/// has at most 32,768 bytes.
 pub fn token_texts()
     ensures { (source : List ℕ) (tokens : List Token) → IsTokens source tokens → All (IsPlaced source) tokens }
 {}

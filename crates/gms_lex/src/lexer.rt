@@ -13,7 +13,7 @@ use gms_grammar::{ByteFault, Kind, Piece, code_text};
 use gms_labels::Place;
 use std::alloc::{AllocError, Global};
 
-/// How many bytes a source may have.
+/// The greatest number of bytes that a source may have: 1 MiB.
 pub const MOST_BYTES: usize = 1_048_576;
 
 /// The tokens that a source begins with, as far as they go.
@@ -107,16 +107,17 @@ fn earlier(a: Option<ByteFault>, b: Option<ByteFault>) -> Option<ByteFault>
 }
 
 /// The tokens of a source, or its first lexical fault (GAMS User's Guide, "Language Items" and
-/// "GAMS Programs").
+/// "GAMS Programs"). The source has at most `MOST_BYTES` bytes.
 ///
-/// Each token is the longest of its mode, and the tokens before it determine the mode: code, a
-/// declaration, a list, or the lines of a table. Blanks, descriptive texts, comments and control
-/// lines separate tokens. The last token is `End`. A fault is the first by place and then by
-/// number: `BadByte` at a byte that cannot occur there, `OpenQuote` at a quotation mark that does
-/// not occur again on its line, `OpenText` at an `$ontext` that is not ended, `LongLabel` at a word
-/// or label of over 63 bytes, `LongLine` at a line of over 32,768 bytes, `UnknownControl` at a
-/// control word that is not accepted. `Memory` means out of memory. The source has at most
-/// `MOST_BYTES` bytes.
+/// Each token is the longest that its mode allows, and the tokens before it determine the mode:
+/// code, a declaration, a list, or the lines of a table. Blanks, descriptive texts, comments and
+/// control lines separate tokens. The last token is `End`.
+///
+/// Of several faults the first by place is returned, and of those at one place the one with the
+/// least number: `BadByte` at a byte that cannot occur there, `OpenQuote` at a quotation mark that
+/// does not occur again on its line, `OpenText` at an `$ontext` without an `$offtext`, `LongLabel`
+/// at a word or label of over 63 bytes, `LongLine` at a line of over 32,768 bytes, `UnknownControl`
+/// at a control word that is not accepted. `Memory` means out of memory.
 pub fn lex(alloc: Global, source: &[u8]) -> Result<Vec<Token>, LexFaultOrMemory>
     requires { length source.now ≤ most_source_bytes }
     ensures { MatchResult result (λ tokens. IsTokens source.now tokens.items) (λ e. IsLexRefusal source.now e) }

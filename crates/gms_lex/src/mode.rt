@@ -4,7 +4,7 @@ ghost use Rattle.gms_lex.specs.Pieces.{element_line_ends, list_line_ends, line_e
 
 use crate::keyword::Shape;
 
-/// The position of the next token in an element of a list.
+/// Where in an element of a list, such as `plant.market`, the next token is.
 #[derive(Clone, Copy)]
 pub enum Stage {
     /// An element is expected: the list has begun, or a comma or a line end has ended the one
@@ -18,7 +18,7 @@ pub enum Stage {
     Spaced,
 }
 
-/// The position of the next token in a statement.
+/// Where in a statement the next token is. With the bytes there it determines the token.
 #[derive(Clone, Copy)]
 pub enum Mode {
     /// Outside declarations.
@@ -53,18 +53,18 @@ pub enum Mode {
     TableLines,
 }
 
-/// What a line end means.
+/// What a line end means: nothing, or the end of an item or of an element.
 #[derive(Clone, Copy)]
 pub enum LineEnds {
     /// Nothing.
     Skipped,
-    /// It ends an item of a declaration.
+    /// The line end ends an item of a declaration.
     EndItem,
-    /// It ends an element of a list.
+    /// The line end ends an element of a list.
     EndElement,
 }
 
-/// What a line end means after an element of a list, or where one is expected.
+/// What a line end means in an element of a list that has begun.
 fn element_line_ends(depth: u32) -> LineEnds
     ensures { result ≡ element_line_ends depth }
 {

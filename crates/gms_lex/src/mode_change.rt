@@ -29,7 +29,7 @@ fn begun_by(keyword: Option<Keyword>, mode: Mode) -> Mode
     }
 }
 
-/// After an element, or something in its place.
+/// After a token that follows an element and does not continue it.
 fn after_element(shape: Shape, depth: u32) -> Mode
     ensures { result ≡ after_element shape depth }
 {

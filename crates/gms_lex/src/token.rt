@@ -8,19 +8,19 @@ use gms_labels::Place;
 /// A token: what it is, which bytes of the source it takes, and its place.
 #[derive(Clone, Copy)]
 pub struct Token {
-    /// What it is.
+    /// The kind of the token: what it is, without its bytes and its place.
     pub kind: Kind,
-    /// How many bytes of the source precede it.
+    /// The offset in the source of the token's first byte, from 0.
     pub start: u32,
-    /// How many bytes of the source precede its end.
+    /// The offset in the source of the first byte after the token, from 0.
     pub end: u32,
-    /// The place of its first byte.
+    /// The line and column in the source of the token's first byte.
     pub at: Place,
 }
 
-/// The bytes of a text that begins with a quotation mark, without that mark and the last byte,
-/// which is the other mark of a quoted token; those of any other text as they are (GAMS User's
-/// Guide, "Language Items", quoted labels and texts).
+/// The text of a token without its quotation marks (GAMS User's Guide, "Language Items", quoted
+/// labels and texts). If `text` begins with a quotation mark, the first byte and the last byte,
+/// which in a quoted token is the other mark, are removed. Any other text is returned whole.
 pub fn unquoted(text: &[u8]) -> &[u8]
     ensures { result.now ≡ unquoted text.now }
 {

@@ -6,21 +6,21 @@ use Rattle.gq_number.specs.Number.{Number, whole, ◌*ℚ◌, rounded}
 abbrev pub line_of : List ℕ → List ℕ
 line_of text = text ++ 10 ∷ []
 
--- a whole number in `places` places, with zeros before it
+-- the decimal digits of n, with zeros before them up to `places` characters
 abbrev pub in_places : ℕ → ℕ → List ℕ
 in_places places n = replicate (places - length (decimal n)) 48 ++ decimal n
 
--- a number of units of the last decimal: the whole part, a point, and the decimals; without
--- decimals there is no point
+-- the decimal text of n units of the last decimal: the integer part, a point, and the decimals;
+-- without decimals there is no point
 abbrev pub fixed_text : ℕ → ℕ → List ℕ
 fixed_text decimals n =
     decimal (n / 10 ^ decimals) ++ (if decimals == 0 then [] else codes "." ++ in_places decimals (n % 10 ^ decimals))
 
--- a number of units with a sign, as a decimal text
+-- the decimal text of an integer number of units of the last decimal, with its sign
 abbrev pub signed_text : ℕ → ℤ → List ℕ
 signed_text decimals (pos n) = fixed_text decimals n
 signed_text decimals (negsuc n) = codes "-" ++ fixed_text decimals (n + 1)
 
--- a number rounded to a number of decimals, half away from zero
+-- the decimal text of a number that is rounded to this number of decimals, half away from zero
 abbrev pub rounded_text : ℕ → Number → List ℕ
 rounded_text decimals x = signed_text decimals (rounded (x *ℚ whole (pos (10 ^ decimals))))

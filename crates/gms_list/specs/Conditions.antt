@@ -1,5 +1,5 @@
--- When an event can be listed: a number's decimals are at most 8, and a solve has a well-formed
--- program and an answer with a certificate.
+-- Which events can be listed: each displayed item has at most 8 decimals, and a solve has a
+-- well-formed linear program and an answer with a certificate.
 use Rattle.std.specs.Prelude.{◌≡◌, ◌≤◌, ℕ, List, map, slice_get, Some, None, All, IfSome, length}
 use Rattle.gq_number.specs.Number.{Number}
 use Rattle.gms_event.specs.declared.event.Event.{Event}
@@ -13,7 +13,9 @@ use Rattle.lp_core.specs.Proofs.{ProvesOptimal, ProvesInfeasible, ProvesCrossed,
 use Rattle.lp_core.specs.WellFormed.{IsWellFormed}
 
 module _ {F : Type 0} (value : F → Number) (lp : Lp F) where
-  -- an answer has a certificate of its end
+  -- An optimal, infeasible or unbounded end of an answer has a certificate for the linear program.
+  -- An end that was interrupted in phase 2 has one level for each column and each row. Nothing is
+  -- required of other ends.
   abbrev pub HasProof : End F → Type 0
   HasProof (Optimal levels row_levels duals reduced) = ProvesOptimal value lp (map value levels) (map value row_levels) (map value duals) (map value reduced)
   HasProof (Infeasible duals None) = ProvesInfeasible value lp (map value duals)
@@ -23,13 +25,14 @@ module _ {F : Type 0} (value : F → Number) (lp : Lp F) where
   HasProof (Refused step) = Unit {0}
 
 module _ {F : Type 0} (value : F → Number) (answers : List (Answer F)) where
-  -- a solve with a well-formed linear program, whose answer at this place, if there is one, has a
-  -- certificate
+  -- a solve can be listed: its linear program is well-formed, and if there is an answer at the
+  -- index `answer`, the answer's end satisfies `HasProof`
   pub record IsListableSolve (lp : Lp F) (answer : ℕ) : Type 0 where
     pub formed : IsWellFormed value lp
     pub occurs : IfSome (slice_get answers answer) (λ a. HasProof value lp a.end)
 
-  -- an event whose numbers have few enough decimals, or a solve whose answer has a certificate
+  -- an event can be listed: each item that a display or an abort shows has at most 8 decimals, and
+  -- a solve can be listed; a fault always can
   abbrev pub IsListable : Event F → Type 0
   IsListable (Display line items) = All (λ (item : Shown F). item.decimals ≤ 8) items
   IsListable (Abort line items) = All (λ (item : Shown F). item.decimals ≤ 8) items

@@ -27,22 +27,23 @@ use Rattle.gms_list.specs.Amounts.{line_of, rounded_text}
 use Rattle.gms_list.specs.SolveText.{solve_text}
 use Rattle.gq_number.specs.Number.{Number}
 
--- the text of a place
+-- the text of a place in the source
 abbrev pub place_text : Place → List ℕ
 place_text at = codes " at line " ++ decimal at.line ++ codes " column " ++ decimal at.column
 
 -- ---- the echo
 
--- a line after its number, which is right in 6 places, and two blanks
+-- the echo of a line: its number, right-aligned in 6 characters, two blanks and the line
 abbrev pub numbered_line : ℕ → List ℕ → List ℕ
 numbered_line n line = line_of (right_in 6 (decimal n) ++ codes "  " ++ line)
 
--- lines after their numbers, from this one on
+-- the echo of lines, in order, where the first one has the number n
 abbrev pub numbered_from : ℕ → List (List ℕ) → List ℕ
 numbered_from n [] = []
 numbered_from n (line ∷ others) = numbered_line n line ++ numbered_from (n + 1) others
 
--- the echo of a source whose first line has this number: its lines without their ends
+-- the echo of a source whose first line has the number n: its lines without their ends, each after
+-- its number
 abbrev pub echo_text : ℕ → List ℕ → List ℕ
 echo_text n source = numbered_from n (map content (lines source))
 
@@ -58,18 +59,18 @@ abbrev pub save_error_text : ℕ → List ℕ → Place → List ℕ
 save_error_text code name at =
     line_of (codes "*** Source error " ++ decimal code ++ codes " " ++ name ++ place_text at)
 
--- the line of an error of a program
+-- the line of a compile error of a program
 abbrev pub compile_error_text : CompileError → List ℕ
 compile_error_text error =
     line_of (codes "*** Compile error " ++ decimal (kind_code error.kind) ++ codes " " ++ kind_name error.kind ++ place_text error.at)
 
--- the lines of errors
+-- the lines of the compile errors of a program, in order
 abbrev pub compile_errors_text : List CompileError → List ℕ
 compile_errors_text errors = flat_map compile_error_text errors
 
 -- ---- values
 
--- a value: a number rounded to a number of decimals, or the word for another
+-- the text of a value: a number rounded to this number of decimals, or the word for any other value
 abbrev pub rounded_value_text : ℕ → Extended → List ℕ
 rounded_value_text decimals (number x) = rounded_text decimals x
 rounded_value_text decimals plus_infinity = codes "+INF"
@@ -78,7 +79,8 @@ rounded_value_text decimals na = codes "NA"
 
 -- ---- what is displayed
 
--- the word for a symbol: a parameter without indices and the status of a model are scalars
+-- the word for the kind of a displayed symbol: a parameter without indices and the status of a
+-- model are scalars
 abbrev pub kind_text : SymbolKind → Bool → List ℕ
 kind_text Set indexed = codes "SET"
 kind_text Parameter true = codes "PARAMETER"
@@ -86,7 +88,7 @@ kind_text Variable indexed = codes "VARIABLE"
 kind_text Equation indexed = codes "EQUATION"
 kind_text kind indexed = codes "SCALAR"
 
--- a suffix after a name
+-- the text of a suffix after a name; empty if there is none
 abbrev pub suffix_text : Suffix → List ℕ
 suffix_text suffix.None = []
 suffix_text suffix.Lo = codes ".lo"
@@ -97,59 +99,60 @@ suffix_text suffix.Fx = codes ".fx"
 suffix_text suffix.ModelStat = codes ".modelstat"
 suffix_text suffix.SolveStat = codes ".solvestat"
 
--- entries: tuples with their values
+-- the entries of a displayed symbol: tuples with their values
 abbrev pub TupleValues : Type 0
 TupleValues = List (List ℕ × Extended)
 
--- the line of a symbol with indices that has no entry
+-- the line of a displayed symbol with indices that has no entries
 abbrev pub nothing_text : SymbolKind → List ℕ
 nothing_text Set = line_of (codes "  (empty)")
 nothing_text kind = line_of (codes "  (all zero)")
 
--- the text of the value of an entry
+-- the text of the value of an entry, rounded to this number of decimals
 abbrev pub number_text : ℕ → List ℕ × Extended → List ℕ
 number_text decimals entry = rounded_value_text decimals entry.1
 
--- the text of the value of a symbol without indices
+-- the text after the name of a displayed symbol without indices: its value
 abbrev pub single_text : Shown → List ℕ
 single_text item = line_of (codes " = " ++ flat_map (number_text item.decimals) item.entries)
 
 -- ---- the stop of a run
 
--- whether a stop has a count: of elements, rows or columns that are too many
+-- whether a stop of this kind has a count: of elements, rows or columns that are too many
 abbrev pub has_count : StopKind → Bool
 has_count DomainSize = true
 has_count TooManyRows = true
 has_count TooManyColumns = true
 has_count kind = false
 
--- the text of the count
+-- the text of the count of a stop; empty for a kind without one
 abbrev pub count_text : StopKind → ℕ → List ℕ
 count_text kind count = if has_count kind then codes " count " ++ decimal count else []
 
 -- ---- texts with the names and the labels of a program
 
 module _ (labels : List (List ℕ)) where
-  -- the length of the longest text of the tuples of entries
+  -- the length of the longest text of the tuples of entries; 0 without entries
   abbrev pub tuple_width : TupleValues → ℕ
   tuple_width entries = fold (λ width entry. max (length (dotted_text labels entry.0)) width) 0 entries
 
-  -- an entry of a set: its tuple
+  -- the line of an entry of a set: its tuple
   abbrev pub member_text : List ℕ × Extended → List ℕ
   member_text entry = line_of (codes "  " ++ dotted_text labels entry.0)
 
-  -- any other entry: its tuple left in the width of the longest, and its value right in 14 places
+  -- the line of an entry of any other symbol: its tuple, left-aligned in `width` characters, and
+  -- its value, right-aligned in 14
   abbrev pub entry_text : ℕ → ℕ → List ℕ × Extended → List ℕ
   entry_text width decimals entry =
       line_of (codes "  " ++ left_in width (dotted_text labels entry.0) ++ codes " " ++ right_in 14 (rounded_value_text decimals entry.1))
 
-  -- the entries of a symbol that has some
+  -- the lines of the entries of a displayed symbol of this kind
   abbrev pub entries_text : SymbolKind → ℕ → TupleValues → List ℕ
   entries_text Set decimals entries = flat_map member_text entries
   entries_text kind decimals entries = flat_map (entry_text (tuple_width entries) decimals) entries
 
-  -- the text after the name: for a symbol without indices its value, otherwise the lines of its
-  -- entries
+  -- the text after the name of a displayed symbol: for one without indices its value, otherwise the
+  -- lines of its entries
   abbrev pub values_text : Shown → List ℕ
   values_text item =
       if item.indexed then
@@ -157,69 +160,72 @@ module _ (labels : List (List ℕ)) where
       single_text item
 
 module _ (names labels : List (List ℕ)) where
-  -- the name of a symbol with what it is, and its values
+  -- the text of a displayed symbol: its kind, its name with its suffix, and its values
   abbrev pub symbol_text : ℕ → Shown → List ℕ
   symbol_text name item =
       kind_text item.kind item.indexed ++ codes " " ++ label_in_table names name ++ suffix_text item.suffix ++ values_text labels item
 
-  -- what an item shows, after the line of its statement: a text or a symbol
+  -- the text of an item of a `display` or an `abort`: the number of the statement's line, and a
+  -- text or a symbol with its values
   abbrev pub item_text : ℕ → Shown → List ℕ
   item_text line item =
       codes "---- " ++ decimal line ++ codes " " ++ elim item.name [ None ↦ line_of item.text | Some name ↦ symbol_text name item ]
 
-  -- what items show
+  -- the text of the items of a `display` or an `abort`, in order
   abbrev pub items_text : ℕ → List Shown → List ℕ
   items_text line items = flat_map (item_text line) items
 
-  -- a set and the label that it stands for
+  -- the text of a controlled set and its label
   abbrev pub pair_text : ℕ × ℕ → List ℕ
   pair_text pair = label_in_table names pair.0 ++ codes "=" ++ label_in_table labels pair.1
 
-  -- pairs after the first
+  -- the text of the controlled sets after the first, each with its label
   abbrev pub further_pairs : Pairs → List ℕ
   further_pairs pairs = flat_map (λ pair. codes "," ++ pair_text pair) pairs
 
-  -- the sets that are controlled at a stop, each with the label that it stands for
+  -- the text of the sets that are controlled at a stop, each with its label; empty if there are
+  -- none
   abbrev pub pairs_text : Pairs → List ℕ
   pairs_text [] = []
   pairs_text (pair ∷ pairs) = codes " with " ++ pair_text pair ++ further_pairs pairs
 
-  -- the line of the stop of a run
+  -- the line of the stop of a run: its kind and place, the labels of controlled sets, and its count
   abbrev pub stop_text : Fault → List ℕ
   stop_text fault =
       line_of (codes "*** Execution error " ++ decimal (stop_code fault.kind) ++ codes " " ++ stop_name fault.kind ++ place_text fault.at ++ pairs_text fault.binding ++ count_text fault.kind fault.count)
 
   -- ---- events
 
-  -- what an event shows, in a run with these answers and with numbers under this limit
+  -- the text of an event of a run, whose solves have these answers; `limit` bounds the numerators
+  -- and denominators of the numbers that the run computes with
   abbrev pub event_text : ℕ → List (Answer Number) → Event → List ℕ
   event_text limit answers (displays line items) = items_text line items
   event_text limit answers (aborts line items) = items_text line items
   event_text limit answers (stops fault) = stop_text fault
   event_text limit answers (solves solved) = flat_map (solve_text names labels limit solved) (option_to_list (slice_get answers solved.answer))
 
-  -- what events show, in order
+  -- the text of events, in order
   abbrev pub events_text : ℕ → List (Answer Number) → List Event → List ℕ
   events_text limit answers events = flat_map (event_text limit answers) events
 
 -- ---- the whole listing
 
--- the last line
+-- the last line of a listing: the exit status and the number of solves
 abbrev pub end_text : ℕ → ℕ → List ℕ
 end_text status made = line_of (codes "END status " ++ decimal status ++ codes " solves " ++ decimal made)
 
--- the listing of a file whose run shows these events: the echo, what is shown, and the last line;
--- `line` is the number of the file's first line
+-- the listing of a file whose run shows these events and ends with this exit status: the echo, the
+-- text of the events, and the last line; `line` is the number of the file's first line
 abbrev pub run_listing : List (List ℕ) → List (List ℕ) → ℕ → ℕ → List ℕ → List (Answer Number) → List Event → ℕ → List ℕ
 run_listing names labels limit line file answers events status =
     echo_text line file ++ events_text names labels limit answers events ++ end_text status (length answers)
 
--- whether a source that is refused for an error has an echo: one that is too long has none
+-- whether a source with this error has an echo: one that is too long has none
 abbrev pub has_echo : SourceError → Bool
 has_echo TooLong = false
 has_echo error = true
 
--- the echo of a file whose source is refused for an error
+-- the echo of a file whose source has this error; empty if it is too long
 abbrev pub refused_echo : SourceError → ℕ → List ℕ → List ℕ
 refused_echo error line file = if has_echo error then echo_text line file else []
 

@@ -9,7 +9,7 @@ use gq_text::{Digits, put_exact, put_rounded};
 /// With how many decimals the numbers of a solve are shown.
 const DECIMALS: u8 = 3;
 
-/// A number with three decimals.
+/// The text of a number with three decimals.
 pub(crate) fn amount<F: ExactField>(x: F, digits: &mut Digits) -> &str
     ensures { result.now ≡ amount (F.value x) }
 {
@@ -17,7 +17,7 @@ pub(crate) fn amount<F: ExactField>(x: F, digits: &mut Digits) -> &str
     digits.as_str()
 }
 
-/// An exact number.
+/// The exact text of a number.
 pub(crate) fn exact<F: ExactField>(x: F, digits: &mut Digits) -> &str
     ensures { result.now ≡ exact_text (F.value x) }
 {
@@ -25,7 +25,8 @@ pub(crate) fn exact<F: ExactField>(x: F, digits: &mut Digits) -> &str
     digits.as_str()
 }
 
-/// A bound with three decimals, or the word for none.
+/// The text of a bound: with three decimals, or for an infinite bound the word `none`, which is
+/// -INF or +INF.
 pub(crate) fn bound<'d, F: ExactField>(
     x: Option<F>,
     none: &'static str,

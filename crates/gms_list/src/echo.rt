@@ -31,17 +31,18 @@ fn text_after_line(text: &[u8], count: usize) -> &[u8]
 }
 
 impl Listing {
-    /// Appends the lines of a source, each after its number, from 1.
+    /// Appends the lines of a source, each after its line number; the first line has the number 1.
     pub fn echo(&mut self, alloc: Global, source: &[u8]) -> Result<(), AllocError>
         ensures { Appends result self.old self.new (echo_text 1 source.now) }
     {
         self.echo_from(alloc, source, 1)
     }
 
-    /// Appends the lines of a source, each after its number; `line` is that of the first.
+    /// Appends the lines of a source, each after its line number; the first line has the number
+    /// `line`.
     ///
-    /// A carriage return before a line feed is dropped, and a missing last line end is supplied;
-    /// all other bytes are unchanged.
+    /// A carriage return before a line feed is dropped, and a missing line end of the last line is
+    /// supplied; all other bytes are unchanged.
     pub fn echo_from(&mut self, alloc: Global, source: &[u8], line: u32) -> Result<(), AllocError>
         ensures { Appends result self.old self.new (echo_text line source.now) }
     {

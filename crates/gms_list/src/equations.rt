@@ -57,7 +57,7 @@ fn push_once(numbers: &mut Vec<u32>, n: u32) -> Result<(), AllocError>
     Ok(())
 }
 
-/// The variables that have columns, in order, without repetition.
+/// The variables that have columns, in the order of their first columns.
 pub(crate) fn variables_of<F>(alloc: Global, columns: &[Column<F>]) -> Result<Vec<u32>, AllocError>
     ensures { IfOk result (λ variables. variables.items ≡ distinct_names (map (λ column. column.key.symbol) columns.now)) }
 {
@@ -75,7 +75,7 @@ fn magnitude<F: ExactField>(x: F) -> F
     if x.sign() < 0 { x.neg() } else { x }
 }
 
-/// The text of an element.
+/// The text of the element of a row or a column: its name and its labels.
 pub(crate) fn key_text<F: ExactField>(
     alloc: Global,
     p: &Program<F>,
@@ -86,7 +86,7 @@ pub(crate) fn key_text<F: ExactField>(
     element(alloc, &p.names, &p.labels, key.symbol, &key.tuple)
 }
 
-/// The text of the element of a column.
+/// The text of the element of column `j`; empty if there is no such column.
 pub(crate) fn column_text<F: ExactField>(
     alloc: Global,
     p: &Program<F>,
@@ -109,7 +109,7 @@ fn term_sign<F: ExactField>(x: F) -> &'static str
 }
 
 impl Listing {
-    /// Appends a word, a name and the text after it.
+    /// Appends a word, a name and the text `following`.
     pub(crate) fn push_head<F: ExactField>(
         &mut self,
         alloc: Global,
@@ -281,7 +281,8 @@ impl Listing {
         self.push_after_rows(alloc, most, rows_of(lp.rows.as_slice(), equation))
     }
 
-    /// Appends the first rows of each equation of the model.
+    /// Appends the lines of the model's equations, each with its first `most` rows; none if `most`
+    /// is 0.
     pub(crate) fn push_equations<F: ExactField>(
         &mut self,
         alloc: Global,
@@ -468,7 +469,8 @@ impl Listing {
         )
     }
 
-    /// Appends the first columns of each variable that has some.
+    /// Appends the lines of the variables that have columns, each with its first `most` columns;
+    /// none if `most` is 0.
     pub(crate) fn push_variables<F: ExactField>(
         &mut self,
         alloc: Global,

@@ -9,7 +9,8 @@ use gms_parse::SourceFault;
 use std::alloc::{AllocError, Global};
 
 impl Listing {
-    /// Appends the line of the fault of a source that is no program.
+    /// Appends one line: the fault `f` for which a source is no program, by its number, its name
+    /// and its place.
     pub fn source_fault(&mut self, alloc: Global, f: &SourceFault) -> Result<(), AllocError>
         ensures { Appends result self.old self.new (source_error_text f.now) }
     {
@@ -23,8 +24,8 @@ impl Listing {
         self.push(line.as_str())
     }
 
-    /// Appends the line of the fault of a save that cannot be restored, by the fault's number and
-    /// name.
+    /// Appends one line: the fault for which a save cannot be restored. The fault has the number
+    /// `code`, the name `name` and the place `at`.
     pub fn save_fault(
         &mut self,
         alloc: Global,
@@ -42,7 +43,7 @@ impl Listing {
         self.push(line.as_str())
     }
 
-    /// Appends the lines of the errors of a program, in order.
+    /// Appends a line for each of these compile errors of a program, in order.
     pub fn errors(&mut self, alloc: Global, e: &[CompileError]) -> Result<(), AllocError>
         ensures { Appends result self.old self.new (compile_errors_text e.now) }
     {

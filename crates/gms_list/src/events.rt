@@ -17,7 +17,8 @@ use lp_core::Answer;
 use std::alloc::{AllocError, Global};
 
 impl Listing {
-    /// Appends what an event of the run of a program shows.
+    /// Appends the text of the event `e` of a run of the program `p`. The solves of the run have
+    /// these answers, in order.
     pub fn event(
         &mut self,
         alloc: Global,

@@ -50,7 +50,7 @@ fn nothing_text(kind: SymbolKind) -> &'static str
 }
 
 impl Listing {
-    /// Appends what items show, in order.
+    /// Appends the text of the items of a `display` or an `abort` at this line, in order.
     pub(crate) fn push_items<F: ExactField>(
         &mut self,
         alloc: Global,

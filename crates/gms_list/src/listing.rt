@@ -9,8 +9,8 @@ use std::marker::Model;
 
 /// The text of a listing so far.
 ///
-/// Each call appends the text of its arguments; if memory runs out it appends a prefix of that
-/// text. GAMS User's Guide, "GAMS Output".
+/// A method that appends puts the text of its arguments at the end; if memory runs out, it puts a
+/// prefix of this text there. GAMS User's Guide, "GAMS Output".
 #[derive(Debug)]
 pub struct Listing {
     pub(crate) text: Vec<u8>,
@@ -41,7 +41,7 @@ impl Listing {
         }
     }
 
-    /// Removes all of the text, and keeps its capacity.
+    /// Removes the text, so that the listing is empty, and keeps the memory that the text has used.
     pub fn clear(&mut self)
         ensures { self.new ≡ [] }
     {
@@ -55,7 +55,8 @@ impl Listing {
         self.text.as_slice()
     }
 
-    /// Appends the last line: the status of the run, and how many solves it made.
+    /// Appends the last line of a listing: the exit status `status`, and `solves`, the number of
+    /// solves.
     pub fn close(&mut self, alloc: Global, status: u8, solves: usize) -> Result<(), AllocError>
         ensures { Appends result self.old self.new (end_text status solves) }
     {
@@ -77,7 +78,7 @@ impl Listing {
         self.push_bytes(text.as_bytes())
     }
 
-    /// Appends two blanks and a text left in a column of a width.
+    /// Appends two blanks and a text, left-aligned in `width` characters.
     pub(crate) fn push_left(
         &mut self,
         alloc: Global,
@@ -90,7 +91,7 @@ impl Listing {
         left(alloc, text, width, &mut self.text)
     }
 
-    /// Appends a blank and a text right in a column of a width.
+    /// Appends a blank and a text, right-aligned in `width` characters.
     pub(crate) fn push_right(
         &mut self,
         alloc: Global,

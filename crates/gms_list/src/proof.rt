@@ -225,7 +225,8 @@ impl Listing {
         self.push_dual_bound(alloc, lp, true, duals)
     }
 
-    /// Appends what proves an end, or what is known of one that has no proof.
+    /// Appends the lines of the proof of an end, its certificate; of an end that has none,
+    /// interrupted or refused, what is known of it. `pivots` is how many pivots the solver made.
     pub(crate) fn push_proof<F: ExactField>(
         &mut self,
         alloc: Global,

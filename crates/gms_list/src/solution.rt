@@ -20,10 +20,10 @@ use std::alloc::{AllocError, Global};
 /// The width of the column of a number.
 const NUMBER_WIDTH: usize = 12;
 
-/// The marks after the columns of a solution.
+/// The texts after the lines of columns in a solution.
 #[derive(Clone, Copy)]
 pub(crate) enum Marks<'s, F> {
-    /// Nothing.
+    /// No text.
     None,
     /// ` UNBND` at the columns that the ray moves.
     Ray(&'s [F]),
@@ -31,7 +31,7 @@ pub(crate) enum Marks<'s, F> {
     Objective(u32),
 }
 
-/// The levels and the marginals that an answer lists.
+/// The levels and the marginals that are listed for an answer.
 #[derive(Clone, Copy)]
 pub(crate) struct Solution<'s, F> {
     /// The level of each column.
@@ -42,11 +42,11 @@ pub(crate) struct Solution<'s, F> {
     pub(crate) duals: &'s [F],
     /// The marginal of each column; without marginals they are 0.
     pub(crate) reduced: &'s [F],
-    /// The marks after columns.
+    /// The texts after the lines of columns.
     pub(crate) marks: Marks<'s, F>,
 }
 
-/// The number at a place; 0 if there is none.
+/// The number at an index of the list; 0 past its end.
 pub(crate) fn number_at<F: ExactField>(numbers: &[F], place: usize) -> F
     ensures { F.value result ≡ number_at_place (map F.value numbers.now) place }
 {
@@ -69,7 +69,7 @@ fn row_bounds<F: ExactField>(row: &Row<F>) -> (Option<F>, Option<F>)
     }
 }
 
-/// The mark after a column.
+/// The text after the line of column `j`.
 fn mark<F: ExactField>(marks: Marks<'_, F>, j: usize) -> &'static str
     ensures { result.now ≡ mark_in F.value marks.entry j }
 {
@@ -394,7 +394,7 @@ impl Listing {
         Ok(())
     }
 
-    /// Appends the levels and marginals of all rows and columns.
+    /// Appends the levels and marginals of all rows of these equations and of all columns.
     pub(crate) fn push_solution<F: ExactField>(
         &mut self,
         alloc: Global,

@@ -22,20 +22,20 @@ use gq_text::Digits;
 use lp_core::{Answer, End, Lp, Row};
 use std::alloc::{AllocError, Global};
 
-/// A solve without its answer.
+/// What a solve shows, except for its answer.
 #[derive(Clone, Copy)]
 pub(crate) struct Solved<'s, F: ExactField> {
-    /// The line of the statement.
+    /// The number of the line at which the statement begins.
     pub(crate) line: u32,
-    /// The model.
+    /// The number of the model's name.
     pub(crate) model: u32,
-    /// The equations of the model.
+    /// The numbers of the names of the model's equations.
     pub(crate) equations: &'s [u32],
     /// The linear program.
     pub(crate) lp: &'s Lp<F>,
     /// The name of the solver.
     pub(crate) solver: &'s [u8],
-    /// The settings.
+    /// The settings at the solve.
     pub(crate) settings: Settings,
     /// The level of the objective after the solve.
     pub(crate) objective_level: F,
@@ -205,7 +205,7 @@ impl Listing {
         }
     }
 
-    /// Appends what a solve shows.
+    /// Appends the text of a solve with its answer.
     pub(crate) fn push_solve<F: ExactField>(
         &mut self,
         alloc: Global,

@@ -34,8 +34,8 @@ fn count_line(alloc: Global, kind: StopKind, count: u64) -> Result<String, Alloc
 }
 
 impl Listing {
-    /// Appends the line of the stop of a run: its kind and place, the labels under which it came,
-    /// and the count where there are too many.
+    /// Appends the line of the stop of a run: its kind and place, the labels of the controlled
+    /// sets, and its count of elements, rows or columns if they are too many.
     pub(crate) fn push_stop<F: ExactField>(
         &mut self,
         alloc: Global,

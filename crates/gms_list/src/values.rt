@@ -7,7 +7,8 @@ use gq_extended::Ext;
 use gq_field::ExactField;
 use gq_text::{Digits, put_rounded};
 
-/// The text of a value: a number rounded to a number of decimals, or the word for another.
+/// The text of a value: a number rounded to this number of decimals, or the word for any other
+/// value.
 pub(crate) fn value_text<'d, F: ExactField>(
     value: Ext<F>,
     decimals: u8,

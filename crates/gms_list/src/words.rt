@@ -5,7 +5,8 @@ ghost use Rattle.gms_list.specs.ListingText.{kind_text, suffix_text};
 use gms_ast::Suffix;
 use gms_store::SymbolKind;
 
-/// The word for a symbol. A parameter without indices and the status of a model are scalars.
+/// The word for the kind of a displayed symbol. A parameter without indices and the status of a
+/// model are scalars.
 pub(crate) fn kind_text(kind: SymbolKind, indexed: bool) -> &'static str
     ensures { result.now ≡ kind_text kind indexed }
 {
@@ -18,7 +19,7 @@ pub(crate) fn kind_text(kind: SymbolKind, indexed: bool) -> &'static str
     }
 }
 
-/// A suffix after a name.
+/// The text of a suffix after a name; empty if there is none.
 pub(crate) fn suffix_text(suffix: Suffix) -> &'static str
     ensures { result.now ≡ suffix_text suffix }
 {

@@ -58,7 +58,7 @@ module _ {reader : Reader} {test : Terminal → Bool} {at following : ℕ} {t : 
 pub after_within : (kind : Terminal) {reader : Reader} {at following : ℕ} {t : Token} → IsReady reader → (n : IsNext (is kind) reader at t following) → is End kind ≡ false → following < length reader.tokens.now
 after_within kind ready n other = more_after ready n (ap (is End) (sym (same_kind kind n.kind n.passes)) ∙ other)
 
--- where a part may begin, a token stands
+-- where a part may begin there is a token
 pub led_within : (part : GamsPart) (reader : Reader) (at : ℕ) → leads productions look_ahead part (seen_from reader at) ≡ true → at < length reader.tokens.now
 led_within part reader at led = go (seen_from reader at) refl
   where

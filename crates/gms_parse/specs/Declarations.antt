@@ -19,8 +19,9 @@ use Rattle.gms_ast.specs.StatementTrees.{Act, declares, declares_models}
 use Rattle.gms_parse.specs.DataLists.{listed_in, optional_in, between, elements_in, parameter_items, scalar_in}
 use Rattle.gms_parse.specs.Tables.{items_given}
 
--- The items of a declaration, which its grammar nests: after an item there may be a comma and
--- further items, or a line end and perhaps further items.
+-- What the items of a declaration mean, in order, where `meaning` gives what one item means. The
+-- grammar nests them: after an item there may be a comma and further items, or a line end and
+-- perhaps further items.
 abbrev mutual
   pub items_in : {A T : Type 0} → (DerivationTree T → A) → DerivationTree T → List A
   items_in meaning (node (pair item others)) = meaning item ∷ further_items meaning others
@@ -31,32 +32,33 @@ abbrev mutual
   further_items meaning (some (items_line (pair _ (some tree)))) = items_in meaning tree
   further_items meaning _ = []
 
--- what `variable` declares after a type
+-- the kind of variables that `variable` declares after this word: free, positive, negative, or for
+-- any other word discrete
 abbrev pub variable_kind : List ℕ → DeclKind
 variable_kind word =
     if is_word word (codes "free") then kind.Free else (if is_word word (codes "positive") then kind.Positive else (if is_word word (codes "negative") then kind.Negative else kind.Discrete))
 
--- In a source with these names and labels.
+-- The meaning of derivation trees in a source with these names and labels.
 module _ (source : List ℕ) (names labels : List (List ℕ)) where
-  -- a name with its place
+  -- the number of a name, with its place
   abbrev pub named_in : DerivationTree (Terminal × Token) → Named
   named_in tree = record { at = (token_of tree).at; name = name_in source names labels tree }
 
-  -- a position of a domain: `*`, or a set
+  -- a position of a domain: None for `*`, or a set
   abbrev pub position_in : DerivationTree (Terminal × Token) → Option Named
   position_in (node (position_set name)) = Some (named_in name)
   position_in _ = None
 
-  -- a domain in parentheses
+  -- the positions of a domain in parentheses
   abbrev pub domain_in : DerivationTree (Terminal × Token) → List (Option Named)
   domain_in (node (pair _ (pair (node list) _))) = listed_in position_in list
   domain_in _ = []
 
-  -- the domain after a name, or one without positions
+  -- the positions of the domain after a name; none without a domain
   abbrev pub optional_domain : DerivationTree (Terminal × Token) → List (Option Named)
   optional_domain tree = optional_in [] domain_in tree
 
-  -- a variable or an equation that is declared: its name and its domain
+  -- the declaration of one variable or equation: its name and its domain
   abbrev pub plain_in : DerivationTree (Terminal × Token) → Decl Number
   plain_in item =
       record {
@@ -65,17 +67,17 @@ module _ (source : List ℕ) (names labels : List (List ℕ)) where
         items = [];
       }
 
-  -- a model has all equations
+  -- whether the list of a model is `all`
   abbrev pub has_all : DerivationTree (Terminal × Token) → Bool
   has_all (model_all all) = true
   has_all _ = false
 
-  -- the equations that are named
+  -- the equations that the list of a model names
   abbrev pub equations_in : DerivationTree (Terminal × Token) → List Named
   equations_in (model_named list) = listed_in named_in list
   equations_in _ = []
 
-  -- a model that is declared: its name, and its equations between slashes
+  -- the declaration of one model: its name, and its equations between slashes
   abbrev pub model_in : DerivationTree (Terminal × Token) → ModelDecl
   model_in item =
       record {
@@ -84,23 +86,23 @@ module _ (source : List ℕ) (names labels : List (List ℕ)) where
         equations = optional_in [] (λ list. equations_in (inside (between list))) (second_in (inside item));
       }
 
-  -- the statement of variables, perhaps with a type before the keyword
+  -- the statement that declares variables, perhaps with a type before the keyword
   abbrev pub variable_act : DerivationTree (Terminal × Token) → Act Number
   variable_act statement =
       declares (optional_in kind.Free (λ word. variable_kind (token_text source (token_of word))) (first_in (inside statement))) (items_in plain_in (second_in (second_in (inside statement))))
 
-  -- the statement of equations
+  -- the statement that declares equations
   abbrev pub equation_act : DerivationTree (Terminal × Token) → Act Number
   equation_act statement = declares kind.Equation (items_in plain_in (second_in (inside statement)))
 
-  -- the statement of models
+  -- the statement that declares models
   abbrev pub model_act : DerivationTree (Terminal × Token) → Act Number
   model_act statement = declares_models (items_in model_in (second_in (inside statement)))
 
--- Declarations with data, which are numbers.
+-- The meaning of declarations with data, which are numbers.
 module _ (source : List ℕ) (names labels : List (List ℕ)) where
-  -- what follows the name of a set or a parameter: its domain, and its data between slashes, which
-  -- mean these items
+  -- the declaration of one set or parameter: its name, its domain, and the items that `meaning`
+  -- gives for its data between slashes
   abbrev pub data_in : (DerivationTree (Terminal × Token) → List (Item Number)) → DerivationTree (Terminal × Token) → Decl Number
   data_in meaning item =
       record {
@@ -109,15 +111,15 @@ module _ (source : List ℕ) (names labels : List (List ℕ)) where
         items = optional_in [] (λ list. meaning (between list)) (second_in (second_in (inside item)));
       }
 
-  -- a set that is declared
+  -- the declaration of one set
   abbrev pub set_in : DerivationTree (Terminal × Token) → Decl Number
   set_in item = data_in (elements_in source labels) item
 
-  -- a parameter that is declared
+  -- the declaration of one parameter
   abbrev pub parameter_in : DerivationTree (Terminal × Token) → Decl Number
   parameter_in item = data_in (parameter_items source labels) item
 
-  -- a scalar that is declared: its name, and its value between slashes
+  -- the declaration of one scalar: its name, and its value between slashes
   abbrev pub scalar_item_in : DerivationTree (Terminal × Token) → Decl Number
   scalar_item_in item =
       record {
@@ -126,19 +128,19 @@ module _ (source : List ℕ) (names labels : List (List ℕ)) where
         items = optional_in [] (λ list. scalar_in source labels (between list)) (second_in (inside item));
       }
 
-  -- the statement of sets
+  -- the statement that declares sets
   abbrev pub set_act : DerivationTree (Terminal × Token) → Act Number
   set_act statement = declares kind.Set (items_in set_in (second_in (inside statement)))
 
-  -- the statement of parameters
+  -- the statement that declares parameters
   abbrev pub parameter_act : DerivationTree (Terminal × Token) → Act Number
   parameter_act statement = declares kind.Parameter (items_in parameter_in (second_in (inside statement)))
 
-  -- the statement of scalars
+  -- the statement that declares scalars
   abbrev pub scalar_act : DerivationTree (Terminal × Token) → Act Number
   scalar_act statement = declares kind.Scalar (items_in scalar_item_in (second_in (inside statement)))
 
-  -- the statement of a table: its name, its domain, and the items that its lines give
+  -- the statement that declares a table: its name, its domain, and the items that its lines give
   abbrev pub table_act : DerivationTree (Terminal × Token) → Act Number
   table_act statement =
       let following = second_in (inside statement) in

@@ -22,54 +22,56 @@ use Rattle.gms_parse.specs.declared.fault.SourceFault.{SourceFault}
 use Rattle.gms_parse.specs.declared.fault.SourceFaultOrMemory.{SourceFaultOrMemory}
 use Rattle.gms_parse.specs.declared.fault.SourceFaultOrMemory.TheVariants.{Memory, Fault}
 
--- the number of an error
+-- the number of a source error
 abbrev pub source_error_code : SourceError → ℕ
 source_error_code TooLong = 9
 source_error_code (Lexical error) = lexical_code error
 source_error_code (Syntax error) = syntax_code error
 source_error_code (Table error) = table_code error
 
--- the name of an error
+-- the name of a source error
 abbrev pub source_error_name : SourceError → List ℕ
 source_error_name TooLong = codes "TooLong"
 source_error_name (Lexical error) = lexical_name error
 source_error_name (Syntax error) = syntax_name error
 source_error_name (Table error) = table_name error
 
--- the source fault of a fault in a part of an expression
+-- a fault of a part of an expression, as a source fault
 abbrev pub source_fault : SyntaxFault → SourceFault
 source_fault fault = record { error = Syntax fault.error; at = fault.at }
 
--- the source fault of a fault of the source's tokens
+-- a lexical fault, as a source fault
 abbrev pub lexical_fault : LexFault → SourceFault
 lexical_fault fault = record { error = Lexical fault.error; at = fault.at }
 
--- the source error of an error of a table: a label beyond the limit is the same error wherever it
--- is
+-- an error of a table as a source error; a label beyond the limit is TooManyLabels, as it is
+-- outside of tables
 abbrev pub error_of_table : TableError → SourceError
 error_of_table table.Labels = Syntax TooManyLabels
 error_of_table error = Table error
 
--- a fault with this error at this place
+-- the source fault with this error at this place
 abbrev pub fault_at : SourceError → Place → SourceFaultOrMemory
 fault_at error at = Fault (record { error = error; at = at })
 
--- the source fault of an error of a table: `NoHeading` is at the table's name
+-- an error of a table as a source fault: `NoHeading` is at the place `name` of the table's name,
+-- any other error at the place `at`
 abbrev pub table_fault_at : TableError → Place → Place → SourceFaultOrMemory
 table_fault_at table.NoHeading at name = fault_at (Table table.NoHeading) name
 table_fault_at error at name = fault_at (error_of_table error) at
 
--- the refusal by a table with this name, given why it has no entries
+-- the result in place of a program, given why a table has no entries; `name` is the place of the
+-- table's name
 abbrev pub fault_of_table : TableFaultOrMemory → Place → SourceFaultOrMemory
 fault_of_table tabled.Memory name = Memory
 fault_of_table (tabled.Fault fault) name = table_fault_at fault.error fault.at name
 
--- the refusal of a source, given why it has no tokens
+-- the result in place of a program, given why the source has no tokens
 abbrev pub fault_of_lexical : LexFaultOrMemory → SourceFaultOrMemory
 fault_of_lexical lexed.Memory = Memory
 fault_of_lexical (lexed.Fault fault) = Fault (lexical_fault fault)
 
--- the refusal of a source, given why a part of an expression was not read
+-- the result in place of a program, given why a part of an expression was not read
 abbrev pub fault_of_syntax : SyntaxFaultOrMemory → SourceFaultOrMemory
 fault_of_syntax read.Memory = Memory
 fault_of_syntax (read.Fault fault) = Fault (source_fault fault)

@@ -1,4 +1,4 @@
--- What parsing a source answers: its program, or its first fault (GAMS User's Guide, "GAMS
+-- The result of parsing a source: its program, or its first fault (GAMS User's Guide, "GAMS
 -- Programs", and "GAMS Output", compilation errors).
 use Rattle.std.specs.Prelude.{◌≡◌, ◌≢◌, ◌⊎◌, ℕ, ◌<◌, ◌≤◌, List, [], ◌∷◌, ◌++◌, length, All}
 use Rattle.gms_lex.specs.declared.token.Token.{Token}
@@ -29,13 +29,14 @@ pub record ProgramView : Type 0 where
   pub labels : List (List ℕ)
   pub statements : Statements Number
 
--- the view of a program whose numbers have these values
+-- the view of a program over a field, where `value_of` gives the numbers that the field's values
+-- mean
 abbrev pub program_view : {F : Type 0} → (F → Number) → ProgramNode F → ProgramView
 program_view value_of program =
     record { names = program.names; labels = program.labels; statements = statements_view value_of program.statements.items }
 
--- These are all the lines of a table among the tokens: adjacent lines, with no line directly before
--- or after them.
+-- `lines` are all the lines of a table among the tokens: adjacent lines, with no line directly
+-- before or after them.
 pub record IsTableOf (tokens lines : List KindedToken) : Type 0 where
   pub before : List KindedToken
   pub following : List KindedToken
@@ -45,20 +46,20 @@ pub record IsTableOf (tokens lines : List KindedToken) : Type 0 where
   pub none_before : (others : List KindedToken) (token : KindedToken) → before ≡ others ++ token ∷ [] → token.0 ≢ terminal.TableLine
   pub none_after : kind_ahead following terminal.End ≢ terminal.TableLine
 
--- Another token is required after this prefix of a source: if only the end remains, the prefix is
--- no program.
+-- The prefix of a source requires another token after it: if only the source's end follows, then
+-- the prefix is no program.
 abbrev pub RequiresMore : List KindedToken → List KindedToken → Type 0
 RequiresMore prefix rest = kind_of rest ≡ terminal.End → Derives productions (the Program) prefix → ⊥
 
 module _ (limit : ℕ) (source : List ℕ) where
-  -- each table among the tokens has items, which are those that its lines give
+  -- each table among the tokens has items, and they are those that the lines of the table give
   abbrev pub HaveItems : List (List ℕ) → List KindedToken → Type 0
   HaveItems labels tokens = (lines : List KindedToken) → IsTableOf tokens lines → AreTableItems limit source labels lines (items_given source labels lines)
 
-  -- The only program of the tokens: they are a program up to the end, and none has a fault. Its
-  -- names and labels are those after the tokens, each table has items, and the statements are those
-  -- that the derivation means, in which a text has the number that it means, and a table the items
-  -- that its lines give.
+  -- The tokens are the program with these names, labels and statements. They derive a program up to
+  -- the end, and none has a fault. The names and labels are those after the tokens, each table has
+  -- items, and the statements are those that the derivation means: there a number is the one that
+  -- its text means, and a table has the items that its lines give.
   pub record IsProgramOf (tokens : List KindedToken) (names labels : List (List ℕ)) (statements : Statements Number) : Type 0 where
     pub tree : DerivationTree KindedToken
     pub end : Token
@@ -70,35 +71,35 @@ module _ (limit : ℕ) (source : List ℕ) where
     pub tables : HaveItems labels (yield tree)
     pub statements_are : statements ≡ statements_of source names labels tree
 
-  -- The tokens are no program, or a faulty one: this is the first fault. After the longest prefix
-  -- that begins a program the next token is unexpected; the end of the source only if the prefix is
-  -- no program.
+  -- The tokens are no program, or a faulty one, and this is the first fault: that of a token in the
+  -- longest prefix that begins a program or, if none of these has a fault, that of the next token,
+  -- which is unexpected. The end of the source is unexpected only if the prefix is no program.
   abbrev pub IsNoProgram : List KindedToken → SourceFault → Type 0
   IsNoProgram tokens fault = rules.IsRefusedByRule source_rule (limit, source) RequiresMore Program start tokens fault
 
-  -- A source of too many bytes has a fault at its start, and no other.
+  -- The source has too many bytes, and the fault is TooLong at its start.
   abbrev pub IsTooLong : SourceFault → Type 0
   IsTooLong fault = (most_source_bytes < length source) × (fault ≡ record { error = TooLong; at = record { line = 1; column = 1 } })
 
-  -- Else a lexical fault comes before all others.
+  -- The source is short enough, and the fault is its first lexical fault.
   pub record IsLexical (fault : SourceFault) : Type 0 where
     pub short : length source ≤ most_source_bytes
     pub lexical : LexFault
     pub is_first : IsLexicalFault source lexical
     pub is : fault ≡ lexical_fault lexical
 
-  -- Else the fault is the first of the tokens.
+  -- The source is short enough and has tokens, and the fault is the first of these.
   pub record IsSyntactic (fault : SourceFault) : Type 0 where
     pub short : length source ≤ most_source_bytes
     pub tokens : List Token
     pub are_tokens : IsTokens source tokens
     pub refused : IsNoProgram (kinded_tokens source tokens) fault
 
-  -- the fault of the source
+  -- the source has this fault, in its length, its bytes or its tokens
   abbrev pub IsSourceFault : SourceFault → Type 0
   IsSourceFault fault = IsTooLong fault ⊎ (IsLexical fault ⊎ IsSyntactic fault)
 
-  -- an answer in place of a program: the fault of the source, or out of memory
+  -- the result in place of a program is right: the fault of the source, or out of memory
   abbrev pub IsSourceRefusal : SourceFaultOrMemory → Type 0
   IsSourceRefusal (Fault fault) = IsSourceFault fault
   IsSourceRefusal Memory = Unit {0}
@@ -110,6 +111,7 @@ module _ (limit : ℕ) (source : List ℕ) where
     pub are_tokens : IsTokens source tokens
     pub is : IsProgramOf (kinded_tokens source tokens) view.names view.labels view.statements
 
-  -- the program of the source
+  -- the program is that of the source, where `value_of` gives the numbers that the field's values
+  -- mean
   abbrev pub IsProgram : {F : Type 0} → (F → Number) → ProgramNode F → Type 0
   IsProgram value_of program = HasProgram (program_view value_of program)

@@ -11,16 +11,16 @@ use Rattle.gms_ast.specs.StatementTrees.{Act, loops, displays, Statements, no_st
 use Rattle.gms_parse.specs.Declarations.{variable_act, equation_act, model_act, set_act, parameter_act, scalar_act, table_act}
 use Rattle.gms_parse.specs.Statements.{named_act, assignment_act, alias_act, display_act, option_act, solve_act, abort_act}
 
--- In a source with these names and labels. The value for a tree that is none of its part has no
--- meaning.
+-- The meaning of derivation trees in a source with these names and labels; a tree that is none of
+-- the part means an empty display, or no statement.
 module _ (source : List ℕ) (names labels : List (List ℕ)) where
   abbrev mutual
-    -- a loop
+    -- the loop that a derivation means
     pub loop_act : DerivationTree (Terminal × Token) → Act Number
     loop_act (node (pair _ (pair _ (pair tree _)))) = controlled_act tree
     loop_act _ = displays []
 
-    -- its control, and the statements of its body
+    -- the loop with this control and the statements of this body
     pub controlled_act : DerivationTree (Terminal × Token) → Act Number
     controlled_act (pair sets (pair _ body)) = loops (control source names labels sets) (loop_body body)
     controlled_act _ = displays []
@@ -34,13 +34,13 @@ module _ (source : List ℕ) (names labels : List (List ℕ)) where
     after_semicolon (some (pair _ (some tree))) = loop_body tree
     after_semicolon _ = no_statement
 
-    -- a statement in a loop: an assignment, or another
+    -- the act of a statement in a loop: an assignment, or another
     pub inner_act : DerivationTree (Terminal × Token) → Act Number
     inner_act (node (inner_assignment tree)) = assignment_act source names labels tree
     inner_act (node (inner_other tree)) = display_or_other tree
     inner_act _ = displays []
 
-    -- a display, options, a solve, an abort, or a loop
+    -- the act of a display, an option statement, a solve, an abort, or a loop
     pub display_or_other : DerivationTree (Terminal × Token) → Act Number
     display_or_other (other_display tree) = display_act source names labels tree
     display_or_other (other_option tree) = option_act source names labels tree
@@ -49,7 +49,7 @@ module _ (source : List ℕ) (names labels : List (List ℕ)) where
     display_or_other (other_loop tree) = loop_act tree
     display_or_other _ = displays []
 
-  -- a statement that begins with a keyword
+  -- the act of a statement that begins with a keyword
   abbrev pub keyword_act : DerivationTree (Terminal × Token) → Act Number
   keyword_act (node (keyword_set tree)) = set_act source names labels tree
   keyword_act (node (keyword_parameter tree)) = parameter_act source names labels tree
@@ -62,27 +62,28 @@ module _ (source : List ℕ) (names labels : List (List ℕ)) where
   keyword_act (node (keyword_other tree)) = display_or_other tree
   keyword_act _ = displays []
 
-  -- statements that begin with keywords, in order
+  -- the statements of a repetition, each of which begins with a keyword, in order
   abbrev pub keyword_statements : DerivationTree (Terminal × Token) → Statements Number
   keyword_statements (more first others) = statement (place_in first) (keyword_act first) (keyword_statements others)
   keyword_statements _ = no_statement
 
-  -- a statement that begins with a name, if any, before others
+  -- the statement that begins with a name, if there is one, followed by the others
   abbrev pub named_first : DerivationTree (Terminal × Token) → Statements Number → Statements Number
   named_first (some tree) others = statement (place_in tree) (named_act source names labels tree) others
   named_first _ others = others
 
-  -- what is between two semicolons
+  -- the statements between two semicolons: perhaps one that begins with a name, then those that
+  -- begin with keywords
   abbrev pub segment : DerivationTree (Terminal × Token) → Statements Number
   segment (node (pair named others)) = named_first named (keyword_statements others)
   segment _ = no_statement
 
-  -- semicolons, and what follows each
+  -- the statements after each of some semicolons, in order
   abbrev pub segments : DerivationTree (Terminal × Token) → Statements Number
   segments (more (pair _ tree) others) = followed_by (segment tree) (segments others)
   segments _ = no_statement
 
-  -- the statements of a program
+  -- the statements that the derivation of a program means
   abbrev pub statements_of : DerivationTree (Terminal × Token) → Statements Number
   statements_of (node (pair first others)) = followed_by (segment first) (segments others)
   statements_of _ = no_statement

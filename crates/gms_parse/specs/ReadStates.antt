@@ -29,65 +29,70 @@ use Rattle.gms_parse.specs.declared.fault.SourceFaultOrMemory.{SourceFaultOrMemo
 use Rattle.gms_parse.specs.declared.fault.SourceFaultOrMemory.TheVariants.{Fault}
 use Rattle.gms_parse.specs.Tables.{labels_of_lines, IsTableLineFault}
 
--- tokens as the grammar views them
+-- a token with its terminal of the grammar
 abbrev pub KindedToken : Type 0
 KindedToken = Terminal × Token
 
--- The state after the tokens so far.
+-- The state after the tokens that were read.
 pub record ReaderState : Type 0 where
   -- how many parentheses are open
   pub open_count : ℕ
-  -- the names and the labels, numbered by their places
+  -- the names and the labels so far, each numbered by its position
   pub names : List (List ℕ)
   pub labels : List (List ℕ)
-  -- the tokens, the last one first
+  -- the tokens that were read, the last one first
   pub before : List KindedToken
-  -- the keyword or the semicolon after which the statement begins, and how many parentheses were
-  -- open there
+  -- the last keyword or semicolon, with or after which the current statement begins, and how many
+  -- parentheses were open before it
   pub keyword : Terminal
   pub level : ℕ
 
--- before the first token
+-- the state before the first token
 abbrev pub start : ReaderState
 start = record { open_count = 0; names = []; labels = []; before = []; keyword = terminal.Semicolon; level = 0 }
 
--- the kind of the token that was read last, which comes first in the list; a semicolon if none was
+-- the kind of the first token in the list, which was read last; a semicolon if the list is empty
 abbrev pub last_kind : List KindedToken → Terminal
 last_kind [] = terminal.Semicolon
 last_kind (token ∷ tokens) = token.0
 
--- a keyword, with which a statement begins
+-- whether a kind is that of a keyword, with which a statement begins
 abbrev pub is_keyword : Terminal → Bool
 is_keyword kind = is_terminal_among (map (λ words. words.0) statement_words) kind
 
--- A name: no suffix after a dot, no word of an option, and not the word after `using`.
+-- Whether a token of this kind, in this state, is a name: a `Name` or a `Suffix`, but not after a
+-- dot or `using`, and not in an option statement.
 abbrev pub is_name : ReaderState → Terminal → Bool
 is_name read_state kind =
     is_terminal_among (terminal.Name ∷ terminal.Suffix ∷ []) kind && not (is_terminal_among (terminal.Dot ∷ terminal.Using ∷ []) (last_kind read_state.before) || is terminal.Option read_state.keyword)
 
--- a text that is an index: not one that a display or an abort shows, which is inside no parentheses
--- of its statement
+-- whether a token of this kind, in this state, is a quoted text that is an index; a text in a
+-- display or an abort, outside of all parentheses of the statement, is shown and is no index
 abbrev pub is_index : ReaderState → Terminal → Bool
 is_index read_state kind =
     is terminal.Text kind && not (is_terminal_among (terminal.Display ∷ terminal.Abort ∷ []) read_state.keyword && read_state.open_count == read_state.level)
 
--- the first label of a range that the tokens so far end in: a label and a `*`
+-- the first label of a range, if a label and a `*` were read last; the list has the last token
+-- first
 abbrev pub range_start : List KindedToken → Option Token
 range_start [] = None
 range_start (star ∷ []) = None
 range_start (star ∷ (first ∷ others)) = if is terminal.Star star.0 && is terminal.Label first.0 then Some first.1 else None
 
--- the place of a table's name: after its keyword
+-- the place of the name of the table that was begun last: the token after the keyword `table`; the
+-- list has the last token first
 abbrev pub table_name : List KindedToken → Place
 table_name [] = record { line = 0; column = 0 }
 table_name (name ∷ []) = record { line = 0; column = 0 }
 table_name (name ∷ (word ∷ others)) = if is terminal.Table word.0 then name.1.at else table_name (word ∷ others)
 
--- a statement may end before a token of this kind
+-- whether a statement may end before a token of this kind: a semicolon, the end of the source, or a
+-- keyword
 abbrev pub ends_statement : Terminal → Bool
 ends_statement kind = is_terminal_among (terminal.Semicolon ∷ terminal.End ∷ []) kind || is_keyword kind
 
--- the table is full for one of these texts, as they are entered in order
+-- If these texts are entered in the table `labels`, in order, the table is full when one of them,
+-- which is new, is to be entered.
 pub record ExceedsTable (labels texts : List (List ℕ)) : Type 0 where
   pub before : List (List ℕ)
   pub text : List ℕ
@@ -95,29 +100,31 @@ pub record ExceedsTable (labels texts : List (List ℕ)) : Type 0 where
   pub parts : texts ≡ before ++ text ∷ following
   pub full : IsFullFor (all_entered labels before) text
 
--- In a source.
+-- What tokens of a source change in the state.
 module _ (source : List ℕ) where
-  -- the labels between two labels of a range; none for an invalid range
+  -- the members of the range from one label to another; none for an invalid range
   abbrev pub range_texts : List ℕ → List ℕ → List (List ℕ)
   range_texts from to = if is_range from to then members from to else []
 
-  -- the labels that a label of a list enters: after the `*` of a range its members, before a `*`
-  -- none, else itself
+  -- the labels that the token of a label in a list enters, where the option is the first label of
+  -- its range: after the `*` of a range the members of the range, before a `*` none, else the label
+  -- itself
   abbrev pub list_labels : Option Token → Terminal → Token → List (List ℕ)
   list_labels (Some first) ahead token = range_texts (unquoted (token_text source first)) (unquoted (token_text source token))
   list_labels None ahead token = if is terminal.Star ahead then [] else unquoted (token_text source token) ∷ []
 
-  -- the lines of a table up to this last one
+  -- the lines of a table up to the given one, which is read after the tokens `before`, the last of
+  -- them first
   abbrev pub lines_with : List KindedToken → KindedToken → List KindedToken
   lines_with before line = reverse (line ∷ take_while (λ token. is terminal.TableLine token.0) before)
 
-  -- the labels that a token enters, if one of kind `ahead` follows it: the last line of a table
-  -- enters those of the table
+  -- the labels that a token enters, read in this state, if one of kind `ahead` follows it: an
+  -- index, a label or a range of a list, or with the last line of a table all labels of the table
   abbrev pub new_labels : ReaderState → KindedToken → Terminal → List (List ℕ)
   new_labels read_state token ahead =
       if is_index read_state token.0 then unquoted (token_text source token.1) ∷ [] else (if is terminal.Label token.0 then list_labels (range_start read_state.before) ahead token.1 else (if is terminal.TableLine token.0 && not (is terminal.TableLine ahead) then labels_of_lines source (lines_with read_state.before token) else []))
 
-  -- the state after a token, if one of kind `ahead` follows it
+  -- the state after a token, from the state before it, if one of kind `ahead` follows it
   abbrev pub reader_after : ReaderState → KindedToken → Terminal → ReaderState
   reader_after read_state token ahead =
       let begins = is_keyword token.0 || is terminal.Semicolon token.0 in
@@ -130,23 +137,23 @@ module _ (source : List ℕ) where
         level = if begins then read_state.open_count else read_state.level;
       }
 
-  -- the state after tokens, if one of kind `ahead` follows them
+  -- the state after tokens, from the state before them, if one of kind `ahead` follows them
   abbrev pub reader_after_all : ReaderState → List KindedToken → Terminal → ReaderState
   reader_after_all read_state tokens ahead = left_by reader_after read_state tokens ahead
 
-  -- the fault of an unexpected token
+  -- the fault of the first of the tokens `rest` as unexpected
   abbrev pub unexpected : List KindedToken → SourceFault
   unexpected rest = source_fault (syntax.unexpected_token source rest)
 
 module _ (limit : ℕ) (source : List ℕ) where
-  -- a number is out of range
+  -- the number of a token is out of range: it does not fit under the limit as a literal
   abbrev pub IsOutOfRange : Token → Type 0
   IsOutOfRange token = (x : Number) → MeansNumber (token_text source token) x → FitsLiteral limit x → ⊥
 
-  -- After the tokens so far, a token that the grammar expects, and that one of kind `ahead`
-  -- follows, has a fault: it opens a parenthesis while 100 are open; it is a number out of range;
-  -- it is a new name after 65,536 others, or enters a new label after as many others; it is the
-  -- last line of a table that has a fault; or it ends the head of a table without lines.
+  -- A token that the grammar expects has this fault, if it is read in this state and one of kind
+  -- `ahead` follows it: it opens a parenthesis while 100 are open; it is a number out of range; it
+  -- is a new name after 65,536 others, or enters a new label after as many others; it is the last
+  -- line of a table that has a fault; or it ends the head of a table without lines.
   pub data IsFaulty (read_state : ReaderState) (token : KindedToken) (ahead : Terminal) : SourceFault → Type 0 where
     deep : token.0 ≡ terminal.LeftParen → 100 ≤ read_state.open_count → IsFaulty read_state token ahead (record { error = Syntax Depth; at = token.1.at })
     out_of_range : token.0 ≡ terminal.Number → IsOutOfRange token.1 → IsFaulty read_state token ahead (record { error = Syntax OutOfRange; at = token.1.at })
@@ -159,7 +166,8 @@ module _ (limit : ℕ) (source : List ℕ) where
     without_lines : token.0 ≡ terminal.RightParen → read_state.keyword ≡ terminal.Table → ends_statement ahead ≡ true →
         IsFaulty read_state token ahead (record { error = Table NoHeading; at = table_name read_state.before })
 
--- the rule of faults in a source, by the limit of its numbers
+-- the rule by which a source is read, for a pair of the limit of numbers and the source: the state
+-- after a token, the faults of a token, and the fault of an unexpected one
 abbrev pub source_rule : ℕ × List ℕ → Rule Token ReaderState SourceFault SourceFaultOrMemory
 source_rule key = record {
   after = reader_after key.1;
@@ -168,6 +176,6 @@ source_rule key = record {
   told = Fault;
 }
 
--- none of the tokens has a fault, if one of kind `ahead` follows them
+-- none of the tokens has a fault, read from this state on, if one of kind `ahead` follows them
 abbrev pub AreTokensFaultless : ℕ → List ℕ → ReaderState → List KindedToken → Terminal → Type 0
 AreTokensFaultless limit source read_state tokens ahead = rules.AreFaultless (source_rule (limit, source)) read_state tokens ahead

@@ -26,39 +26,41 @@ use Rattle.gms_ast.specs.StatementTrees.{Act, aliases, assigns, defines, solves,
 use Rattle.gms_parse.specs.DataLists.{listed_in, optional_in, between}
 use Rattle.gms_parse.specs.Declarations.{named_in}
 
--- how two sides relate, by the symbol between them
+-- how the two sides of an equation relate, by the symbol between them: `=l=`, `=g=`, `=n=`, or for
+-- any other that of `=e=`
 abbrev pub side_of : Kind → Side
 side_of (token_kind.Symbol sym.EqL) = side.L
 side_of (token_kind.Symbol sym.EqG) = side.G
 side_of (token_kind.Symbol sym.EqN) = side.N
 side_of _ = side.E
 
--- a direction is `maximizing`
+-- whether the word of a direction is `maximizing`
 abbrev pub is_maximizing : List ℕ → Bool
 is_maximizing word = is_word word (codes "maximizing")
 
--- In a source with these names and labels.
+-- The meaning of derivation trees in a source with these names and labels; a tree that is none of
+-- the part means an empty display.
 module _ (source : List ℕ) (names labels : List (List ℕ)) where
-  -- the bytes of a token
+  -- the bytes of the token of a leaf
   abbrev pub bytes_in : DerivationTree (Terminal × Token) → List ℕ
   bytes_in tree = token_text source (token_of tree)
 
-  -- a word, as it is written
+  -- the word of a leaf as it is written, with its place
   abbrev pub word_in : DerivationTree (Terminal × Token) → Word
   word_in tree = record { at = (token_of tree).at; text = bytes_in tree }
 
-  -- a text, without its marks
+  -- the quoted text of a leaf without its quotation marks, with its place
   abbrev pub text_word : DerivationTree (Terminal × Token) → Word
   text_word tree = record { at = (token_of tree).at; text = unquoted (bytes_in tree) }
 
-  -- the condition of a statement, if any
+  -- the condition of a statement, or None without one
   abbrev pub condition_in : DerivationTree (Terminal × Token) → Option (trees.Tree Number)
   condition_in (some tree) = Some (condition source names labels tree)
   condition_in _ = None
 
   -- ---- assignments and definitions
 
-  -- the sides of a definition
+  -- the two sides of a definition, with their places, and how they relate
   abbrev pub sides_in : DerivationTree (Terminal × Token) → Sides Number
   sides_in tree =
       let left_side = first_in (inside tree) in
@@ -72,17 +74,17 @@ module _ (source : List ℕ) (names labels : List (List ℕ)) where
         right = expression source names labels right_side;
       }
 
-  -- the assignment to a target, under a condition, of a right side
+  -- the assignment of this right side to the target, under the condition if there is one
   abbrev pub assigned : Target Number → Option (trees.Tree Number) → DerivationTree (Terminal × Token) → Act Number
   assigned target condition right_side = assigns target condition (place_in right_side) (expression source names labels right_side)
 
-  -- what follows an assignment's target
+  -- the assignment to the target, by what follows the target: a condition, `=` and the right side
   abbrev pub after_target : Target Number → DerivationTree (Terminal × Token) → Act Number
   after_target target (node (pair condition tree)) = assigned target (condition_in condition) (second_in tree)
   after_target target _ = displays []
 
-  -- what follows a target without suffix and lags: `=` makes it an assignment, and `..` a
-  -- definition
+  -- the statement of a target without suffix and lags, by what follows it: with `=` an assignment
+  -- to it, with `..` the definition of an equation
   abbrev pub after_head : Target Number → DerivationTree (Terminal × Token) → Act Number
   after_head target (node (pair condition (head_assigned tree))) = assigned target (condition_in condition) (second_in tree)
   after_head target (node (pair condition (head_defined (pair _ sides)))) =
@@ -90,8 +92,8 @@ module _ (source : List ℕ) (names labels : List (List ℕ)) where
   after_head target _ = displays []
 
   abbrev mutual
-    -- the indices of a head, which the grammar nests as they come; from the first lag on they are a
-    -- plain list
+    -- the indices of the head of a statement; the grammar nests them up to the first lag, and from
+    -- there on they are a plain list
     pub head_indices : DerivationTree (Terminal × Token) → trees.Indices Number
     head_indices (node (head_label (pair text tree))) = trees.label (label_in source names labels text) (following_indices tree)
     head_indices (node (head_set (pair name (node (head_lag (pair amount (node (pair others _)))))))) =
@@ -104,8 +106,8 @@ module _ (source : List ℕ) (names labels : List (List ℕ)) where
     following_indices _ = trees.no_index
 
   abbrev mutual
-    -- what follows the closing parenthesis of a head: with a lag among the indices it is an
-    -- assignment
+    -- the statement with this target, by its indices and what follows them: an assignment if one of
+    -- the indices has a lag, else an assignment or a definition
     pub act_of_head : Target Number → DerivationTree (Terminal × Token) → Act Number
     act_of_head target (node (head_label (pair _ tree))) = act_after target tree
     act_of_head target (node (head_set (pair _ (node (head_lag (pair _ (node (pair _ (pair _ tree))))))))) = after_target target tree
@@ -117,11 +119,12 @@ module _ (source : List ℕ) (names labels : List (List ℕ)) where
     act_after target (node (head_closed (pair _ tree))) = after_head target tree
     act_after target _ = displays []
 
-  -- the target of this name, with a suffix and indices
+  -- the target with this name, suffix and indices
   abbrev pub target_at : DerivationTree (Terminal × Token) → Suffix → trees.Indices Number → Target Number
   target_at name suffix indices = record { at = (token_of name).at; name = name_in source names labels name; suffix = suffix; indices = indices }
 
-  -- an assignment or a definition: the name is followed by a suffix, indices, or neither
+  -- the assignment or definition that begins with a name, which a suffix, indices, or neither
+  -- follow
   abbrev pub named_act : DerivationTree (Terminal × Token) → Act Number
   named_act (node (pair name (node (name_suffixed (pair dotted (pair indices tree)))))) =
       after_target (target_at name (suffix_in source names labels (some dotted)) (optional_indices source names labels indices)) tree
@@ -135,36 +138,36 @@ module _ (source : List ℕ) (names labels : List (List ℕ)) where
       target_at name (suffix_in source names labels dotted) (optional_indices source names labels indices)
   target_in _ = target_at none suffix.None trees.no_index
 
-  -- an assignment in a loop
+  -- the assignment that is a statement of a loop
   abbrev pub assignment_act : DerivationTree (Terminal × Token) → Act Number
   assignment_act (node (pair target tree)) = after_target (target_in target) tree
   assignment_act _ = displays []
 
   -- ---- other statements
 
-  -- two names of a set
+  -- the alias statement: two names of a set
   abbrev pub alias_act : DerivationTree (Terminal × Token) → Act Number
   alias_act (node (pair _ (pair _ (pair both _)))) =
       aliases (named_in source names labels (first_in both)) (named_in source names labels (second_in (second_in both)))
   alias_act _ = displays []
 
-  -- what is shown: a text, or a symbol perhaps with a suffix
+  -- one thing that a display or an abort shows: a text, or a symbol perhaps with a suffix
   abbrev pub parsed_shown : DerivationTree (Terminal × Token) → Show
   parsed_shown (node (shown_text text)) = show.Text (text_word text)
   parsed_shown (node (shown_symbol (pair name dotted))) = show.Symbol (named_in source names labels name) (suffix_in source names labels dotted)
   parsed_shown _ = show.Text (text_word none)
 
-  -- all that is shown
+  -- the list of what a display or an abort shows, in order
   abbrev pub shown_list : DerivationTree (Terminal × Token) → List Show
   shown_list (node list) = listed_in parsed_shown list
   shown_list _ = []
 
-  -- a display
+  -- the display statement
   abbrev pub display_act : DerivationTree (Terminal × Token) → Act Number
   display_act (node (pair _ list)) = displays (shown_list list)
   display_act _ = displays []
 
-  -- an abort
+  -- the abort statement: its condition, if any, and what it shows
   abbrev pub abort_act : DerivationTree (Terminal × Token) → Act Number
   abort_act (node (pair _ (pair condition list))) = aborts (condition_in condition) (optional_in [] shown_list list)
   abort_act _ = displays []
@@ -175,17 +178,17 @@ module _ (source : List ℕ) (names labels : List (List ℕ)) where
   setting_value (setting_word word) = setting.Name (word_in word)
   setting_value _ = setting.Name (word_in none)
 
-  -- an option's word, and what it is set to
+  -- the word of an option, and the number or word to which it is set
   abbrev pub parsed_setting : DerivationTree (Terminal × Token) → Word × Setting Number
   parsed_setting (node (pair word (pair _ tree))) = (word_in word, setting_value tree)
   parsed_setting _ = (word_in none, setting_value none)
 
-  -- a change of options
+  -- the option statement
   abbrev pub option_act : DerivationTree (Terminal × Token) → Act Number
   option_act (node (pair _ list)) = sets_options (listed_in parsed_setting list)
   option_act _ = displays []
 
-  -- a solve of a model: `using` and its word come before the direction and the objective, or after
+  -- the solve statement; `using` and its word come before the direction and the objective, or after
   -- them
   abbrev pub solve_act : DerivationTree (Terminal × Token) → Act Number
   solve_act (node (pair _ (pair model (solve_using (pair _ (pair method objective)))))) =

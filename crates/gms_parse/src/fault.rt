@@ -10,7 +10,7 @@ use gms_table::TableError;
 use std::alloc::{AllocError, AllocFailed};
 use thiserror::Error;
 
-/// A source error, by what finds it.
+/// An error of a source: of its length, its tokens, its syntax or its tables.
 #[derive(Clone, Copy, Debug, Error)]
 pub enum SourceError {
     /// A source of over 1,048,576 bytes.
@@ -57,15 +57,15 @@ impl SourceError {
 #[derive(Clone, Copy, Debug, Error)]
 #[error("{at}: {code} {name}: {error}", code = .error.code(), name = .error.name())]
 pub struct SourceFault {
-    /// The error.
+    /// The error, without its place.
     pub error: SourceError,
-    /// Its place: the start of a source that is too long; the name of a table without lines; else
-    /// the byte, the token or the word that has the error, or the end of the source if more is
-    /// required.
+    /// The place of the error: the start of a source that is too long; the name of a table without
+    /// headings; else the byte, the token or the word that has the error, or the end of the source
+    /// if more is required.
     pub at: Place,
 }
 
-/// A fault of a source, or out of memory.
+/// Why a source gives no program: it has a fault, or memory runs out.
 #[derive(Clone, Copy, Debug, Error)]
 pub enum SourceFaultOrMemory {
     /// Out of memory.

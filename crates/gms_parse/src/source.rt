@@ -16,7 +16,7 @@ const START: Place = Place { line: 1, column: 1 };
 /// The program of a source, with its names and labels numbered in the order of the source, or its
 /// first fault (GAMS User's Guide, "GAMS Programs").
 ///
-/// A source of over 1,048,576 bytes is TooLong, at its start. Else its first lexical fault comes
+/// A source of over 1,048,576 bytes is `TooLong`, at its start. Else its first lexical fault comes
 /// before all others. Else the fault is the first that its tokens have in their order: a token that
 /// cannot occur here, though everything before it could begin a program (`Expected`, or
 /// `NotInProfile` for a word of a statement or a value that the language leaves out); the end of

@@ -6,8 +6,8 @@ use Rattle.gms_ast.specs.StatementTrees.{Statements, followed_by}
 use Rattle.gms_parse.specs.Outcomes.{ProgramView}
 use Rattle.gms_restart.specs.StatementLines.{SeenNew, SeenSaved}
 
--- A program has the statements of another, each above a line, followed by others, each at that line
--- or below it.
+-- The program `whole` has the statements of `first`, each of which begins before the line `from`,
+-- followed by others, each of which begins at that line or after it.
 pub record Continues (from : ℕ) (first whole : ProgramView) : Type 0 where
   pub others : Statements Number
   pub statements : whole.statements ≡ followed_by first.statements others

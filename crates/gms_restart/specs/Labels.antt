@@ -1,5 +1,5 @@
--- The labels that a program writes (GAMS User's Guide, "Set Definition", "Data Entry: Parameters,
--- Scalars and Tables").
+-- The labels that occur in the indices of a program (GAMS User's Guide, "Set Definition", "Data
+-- Entry: Parameters, Scalars and Tables").
 use Rattle.std.specs.Prelude.{◌≡◌, ℕ, nat_lt, true, List, [], ◌∷◌, ◌++◌, length, map, flat_map, Option, Some, None, option_map}
 use Rattle.gq_number.specs.Number.{Number}
 use Rattle.gms_ast.specs.declared.program.Act.TheOpen.{Act-F}
@@ -38,7 +38,7 @@ abbrev mutual
   tree_labels (tree.one_of parts) = part_labels parts
   tree_labels (tree.guarded operand guards) = tree_labels operand ++ part_labels guards
 
-  -- the labels in the parts of a node
+  -- the labels in the operands or arguments of a node
   pub part_labels : {F : Type 0} → tree.Parts F → List ℕ
   part_labels tree.no_part = []
   part_labels (tree.part mark part rest) = tree_labels part ++ part_labels rest
@@ -55,13 +55,13 @@ abbrev mutual
   control_labels (tree.over sets) = []
   control_labels (tree.over_where sets condition) = tree_labels condition
 
--- those in a condition, if there is one
+-- the labels in a condition; none if there is no condition
 abbrev pub condition_labels : {F : Type 0} → Option (tree.Tree F) → List ℕ
 condition_labels None = []
 condition_labels (Some condition) = tree_labels condition
 
 module _ {F : Type 0} where
-  -- the labels that an act writes among its indices, in its conditions and in its expressions
+  -- the labels in the indices, conditions and expressions of an act, also in the body of a loop
   abbrev pub labels_step : Act-F F (List ℕ) (List ℕ) → List ℕ
   labels_step (Act-F.Assign target condition right_at (Value right)) =
       index_labels (target_of target).indices ++ (condition_labels (option_map tree_of condition) ++ tree_labels (tree_of right))
@@ -70,16 +70,18 @@ module _ {F : Type 0} where
   labels_step (Act-F.Loop control body) = control_labels (control_tree control) ++ flat_map (λ labels. labels) body.items
   labels_step act = []
 
-  -- the labels that a statement writes
+  -- the labels in the indices, conditions and expressions of a statement, also in the body of a
+  -- loop
   abbrev pub statement_labels : Stmt F → List ℕ
   statement_labels = fold-Stmt F (List ℕ) (List ℕ) labels_step (λ statement. statement.act)
 
--- The labels that a program writes among indices, and those of the data of a state, are below
--- `count`.
+-- The numbers of the labels in the indices of these statements, and in the data of the state, are
+-- below `count`.
 pub record HasItsLabels {F : Type 0} (count : ℕ) (statements : List (Stmt F)) (state : State) : Type 0 where
   pub written : Each (λ label. nat_lt label count) (flat_map statement_labels statements)
   pub given : (name : ℕ) (tuple : List ℕ) → has (given_in (symbol_at state name).content) tuple ≡ true → Each (λ label. nat_lt label count) tuple
 
--- a program writes only labels of the program's table, and so do its data
+-- the labels in the indices of a program and in the data of its declarations are in the program's
+-- table
 abbrev pub WritesItsLabels : {F : Type 0} → (F → Number) → Program F → Type 0
 WritesItsLabels value program = HasItsLabels (length program.labels) program.statements.items (loaded value program)

@@ -12,22 +12,22 @@ use Rattle.gms_run_laws.specs.Agreeing.{HasAll}
 use Rattle.gms_restart.specs.Restarts.{restarted_run, whole_run}
 use Rattle.lp_core.specs.declared.answer.Answer.{Answer}
 
--- the last state of the run of a program from its first state, with these answers
+-- the last state of the run of a program from its first state, with these answers for its solves
 abbrev pub last_state : {F : Type 0} → (F → Number) → ℕ → World F → List (Answer Number) → State
 last_state value limit world answers = (whole_run value limit world answers).state
 
--- the last state of a run that resumes from a saved state, of a joint program's statements that
--- begin at this line or below it
+-- the last state of the run that resumes from the saved state `state` and executes those statements
+-- of a joint program that begin at the line `from` or after it, with these answers for its solves
 abbrev pub later_state : {F : Type 0} → (F → Number) → ℕ → ℕ → World F → State → List (Answer Number) → State
 later_state value limit from world state answers = (restarted_run value limit from world state answers).state
 
--- the numbers of a state fit a limit
+-- all numbers in the data of a state fit under the limit `most`
 abbrev pub NumbersFit : ℕ → State → Type 0
 NumbersFit most state = (name : ℕ) (t : List ℕ) → fits_at most (symbol_at state name).content t ≡ true
 
--- A program continues a saved one: its first statements assign the sets that those of the saved one
--- assign, it has at least the labels of that, and it begins with all that the saved one begins
--- with.
+-- The statements of the program `whole` are `firsts` followed by `others`. The statements `firsts`
+-- assign the same names as those of the program `saved`; `whole` has at least as many labels; and
+-- its first state has all that the first state of `saved` declares.
 pub record ContinuesSaved {F : Type 0} (value : F → Number) (saved whole : Program F) (firsts others : List (Stmt F)) : Type 0 where
   pub statements : whole.statements.items ≡ firsts ++ others
   pub assigns : flat_map assigned_names firsts ≡ flat_map assigned_names saved.statements.items

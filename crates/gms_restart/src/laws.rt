@@ -1,4 +1,4 @@
-//! Laws of joint programs, of restarted runs, and of what the last state of a run has.
+//! Laws of joint programs, of restarted runs, and of the last states of runs.
 ghost use Rattle.std.specs.Prelude.{◌≡◌, ◌++◌, ℕ, true, List, [], None, Option, Ok, All, length, option_map};
 ghost use Rattle.gq_number.specs.Number.{Number};
 ghost use Rattle.gq_frac.specs.declared.frac.Frac.{Frac};
@@ -37,25 +37,28 @@ ghost use Rattle.lp_core.specs.declared.answer.Answer.{Answer};
 
 use gq_field::ExactField;
 
-/// A file that resumes from a saved state, where the joint source is a program: the state that it
-/// resumes from declares each name as the joint program does, over as many positions and as another
-/// name of the same set, since what the saved source declares first counts (GAMS User's Guide,
-/// "Save and Restart", "Set Definition").
+/// Let a file resume from a saved state, and let the joint source, which is the saved source
+/// followed by the file, be a program. Then the state from which the file resumes declares each
+/// name as the joint program does: with the same number of positions and, for an alias, as an alias
+/// of the same set (GAMS User's Guide, "Save and Restart", "Set Definition").
 pub fn fits_laws()
     ensures fits { (saved file : List ℕ) (first whole : Program Frac) (state : State) (solver : List ℕ) →
         IsProgram frac_limit saved frac_value first → IsProgram frac_limit (joint_source saved file) frac_value whole →
         IsSavedBy first state solver → (name : ℕ) → IsAlike (resumed frac_value state whole) (declared_state whole) name }
 {}
 
-/// If a saved source and the joint source of it and a file are programs, each statement of the
-/// saved program begins above the line at which the file begins, and each further one of the joint
-/// program at that line or below it (`places`).
+/// Let a saved source be a program, and let the joint source, which is the saved source followed by
+/// a file, be a program. Each statement of the saved program begins before the line at which the
+/// file begins. Each further statement of the joint program begins at that line or after it
+/// (`places`).
 ///
-/// So a run that is restarted from a saved base case says what one long run of both would have said
-/// (`says`). Let the run of the saved program end with all its answers taken. Let the joint program
-/// have no error. Let its long run, whose first answers are those of the saved run, execute the
-/// saved source's statements to their end. Then the statements of the file say there what they say
-/// in the restarted run.
+/// So a run of the file that is restarted from the saved state shows what one long run of the joint
+/// program shows for the statements of the file (`says`). Suppose that the saved program is
+/// accepted, that its run does not halt, and that its solves use all the answers given to this run.
+/// Suppose that the statements of the file have no error, and that the long run has the same
+/// solvers. Suppose that the long run, whose first answers are those of the saved run, executes the
+/// saved source's statements without a halt. Then the statements of the file show in the long run
+/// what they show in the restarted run.
 ///
 /// GAMS User's Guide, "Save and Restart".
 pub fn restart_laws()
@@ -72,15 +75,19 @@ pub fn restart_laws()
 {}
 
 /// In the last state of an accepted program's run each tuple with data is in the domain of its
-/// name: it has as many labels as the name has positions, each is one of the program's, and a
-/// member of the set of its position, if it has one (`occur`). So if its numbers fit, as those of a
-/// store do, it is a saved state of the program (`saved`). The labels that the program writes, and
-/// those of its data, have to be in its own table, as those of the program of a source are (`own`).
+/// name: the tuple has as many labels as the name has positions, each label is in the program's
+/// table of labels, and each label is a member of the set at its position, if a set is declared
+/// there (`occur`). So if all numbers of the last state fit under the limit, as the numbers of a
+/// store do, this state is a saved state of the program (`saved`). Both clauses require that the
+/// labels in the program's indices and data are in the program's table, as they are in the program
+/// of a source (`own`).
 ///
-/// So the last state of a run of a source's program without errors is a saved state of it, one that
-/// `restore` accepts, with whatever solvers it was run (`last`). A run may begin in the state that
-/// is resumed from a save, so that the laws of whole runs hold there (`begins`). The last state of
-/// such a run is a saved state of the joint program (`later`).
+/// So if the program of a source has no compile errors, the last state of its run is a saved state
+/// of this program, whatever solvers the run has (`last`). A run of the joint program, of the saved
+/// source followed by a file, may begin in the state that is resumed from a saved state, so the
+/// laws of whole runs hold for this run (`begins`). The last state of such a run is a saved state
+/// of the joint program (`later`). The last two clauses require that the statements of the file
+/// have no error, and `last` and `later` that all numbers of the last state fit.
 ///
 /// GAMS User's Guide, "Save and Restart"; "Set Definition", domain checking.
 pub fn valid_laws<F: ExactField>()
@@ -111,10 +118,10 @@ pub fn valid_laws<F: ExactField>()
         IsSavedBy world.program (later_state frac_value limit (first_line source) world state answers) named }
 {}
 
-/// What an assignment of an accepted program gives elements has as many labels as its name has
-/// positions, in each state that statements of the program lead to from one in which a run may
-/// begin, from its start or from a save, also inside a loop. `assignment_laws` of gms_exec requires
-/// this: so nothing that an assignment gives is lost.
+/// Each element to which an assignment of an accepted program assigns has as many labels as the
+/// name of the element has positions. This holds in each state that statements of the program
+/// reach, also inside a loop, from a state in which a run may begin, at the start of the program or
+/// from a save. `assignment_laws` of gms_exec requires this.
 ///
 /// GAMS User's Guide, "Data Manipulations with Parameters", indexed assignments; "Save and
 /// Restart".

@@ -1,5 +1,5 @@
-//! Layer 7, outside. Restarted runs: what a joint program, its run from a save, and the last state
-//! of a run have.
+//! Layer 7, outside. Laws of restarted runs: of a joint program, its run from a save, and the last
+//! state of a run.
 #![tactic(auto)]
 
 mod laws;

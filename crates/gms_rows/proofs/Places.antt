@@ -16,7 +16,7 @@ use Rattle.gms_rows.specs.ProgramLp.{place_of_key}
 use Rattle.gms_rows.specs.InnerContracts.{is_among, placed_numbers}
 use Rattle.gms_rows.proofs.KeyLists.{tied-turned}
 
--- the first place at which a key stands
+-- the first place at which a key is
 place-at : (keys : List Key) (key : Key) (i : ℕ) → position_or_len (same_key key) keys ≡ i → i < length keys → place_of_key keys key ≡ i
 place-at keys key i first here =
     ap (λ n. unwrap_or (cond (nat_lt n (length keys)) (Some n) None) 0) first

@@ -1,6 +1,6 @@
 -- The affine form of an expression that is linear in the variables (GAMS User's Guide,
--- "Equations"). A part without variables has its value, which has to be a number; all other steps
--- are done entry by entry. The order in which faults are found is this project's own rule.
+-- "Equations"). An operand without variables has its value, which has to be a number; all other
+-- steps are done entry by entry. The order in which faults are found is this project's own rule.
 use Rattle.std.specs.Prelude.{ℕ, ◌+◌, pos, Bool, true, false, ◌&&◌, ◌||◌, List, [], ◌∷◌, map, take, drop, Option, Some, None, unwrap_or, Ok, Err, if◌then◌else◌}
 use Rattle.gms_labels.specs.declared.place.Place.{Place}
 use Rattle.gq_number.specs.Number.{Number, whole, neg_ℚ}
@@ -20,20 +20,21 @@ use Rattle.gms_rows.specs.Forms.{Form, constant_form, zero_form, column_form, su
 
 -- ---- what has variables
 
--- whether a content is that of a variable
+-- whether a symbol's content is that of a variable
 abbrev pub is_variable_content : Content → Bool
 is_variable_content (variable_of type entries) = true
 is_variable_content content = false
 
--- whether a suffix is none
+-- whether there is no suffix
 abbrev pub is_plain : Suffix → Bool
 is_plain suffix.None = true
 is_plain other = false
 
 module _ {F : Type 0} (state : State) where
   abbrev mutual
-    -- whether a variable occurs in an expression for its unknown value: outside conditions,
-    -- relations, operands of logic and amounts of lags, where an accepted program has none
+    -- whether a variable without a suffix, whose value is unknown, occurs in an expression;
+    -- conditions, relations, operands of logic and amounts of lags are not searched, since an
+    -- accepted program has no such variable there
     pub has_variables : tree.Tree F → Bool
     has_variables (tree.reference at name suffix indices) = is_plain suffix && is_variable_content (symbol_at state name).content
     has_variables (tree.fold_over at op control body) = has_variables body
@@ -43,79 +44,89 @@ module _ {F : Type 0} (state : State) where
     has_variables (tree.guarded operand guards) = has_variables operand
     has_variables other = false
 
+    -- whether a variable without a suffix occurs in one of these terms or factors
     pub some_has_variables : tree.Parts F → Bool
     some_has_variables tree.no_part = false
     some_has_variables (tree.part mark part rest) = has_variables part || some_has_variables rest
 
-  -- how many parts come before the first that has variables
+  -- how many terms or factors come before the first that has variables; all of them, if none has
   abbrev pub values_first : tree.Parts F → ℕ
   values_first tree.no_part = 0
   values_first (tree.part mark part rest) = if has_variables part then 0 else values_first rest + 1
 
 -- ---- sums and products
 
--- the form of a value; Undefined at a place if it is no number
+-- the constant form of a value; the fault Undefined at this place if it is no number
 abbrev pub form_of : Place → Pairs → Extended → Answer Form
 form_of at binding (number x) = Ok (constant_form x)
 form_of at binding x = Err (faulted Undefined at binding x nothing)
 
--- the place of a part
+-- the place in the source of a term or factor with this mark; line 0 and column 0 if the mark has
+-- no place
 abbrev pub part_place : Mark → Place
 part_place (signed at inverse) = at
 part_place mark = record { line = 0; column = 0 }
 
--- whether a part is subtracted, or divides
+-- whether a term with this mark is subtracted, or a factor with it divides
 abbrev pub is_inverse : Mark → Bool
 is_inverse (signed at inverse) = inverse
 is_inverse mark = false
 
--- how the form so far is joined with that of a part
+-- a step that joins the form so far with that of the next term or factor, whose mark says whether
+-- it is subtracted or divides
 abbrev pub Join : Type 0
 Join = Mark → Form → Form → Answer Form
 
--- the form so far joined with that of the next part, which gives the first form
+-- the form so far joined with the form of the next term or factor; the latter form, if there is
+-- none so far
 abbrev pub with_next : Join → Mark → Option Form → Form → Answer Form
 with_next join mark None form = Ok form
 with_next join mark (Some left) form = join mark left form
 
--- the forms of parts joined in sequence to the form so far; without any, the form is 0
+-- the form so far joined in sequence with those of these terms or factors, or the first fault; the
+-- form 0 if there is no form at all
 abbrev pub joined_forms : Join → Option Form → List (Mark × Answer Form) → Answer Form
 joined_forms join so_far [] = Ok (unwrap_or so_far zero_form)
 joined_forms join so_far (part ∷ parts) = part.1 and_then λ form. with_next join part.0 so_far form and_then λ next. joined_forms join (Some next) parts
 
--- the form of values, which has the place of the first: the number that they make from the left
+-- the constant form of the number to which the step joins these values from the left, or the first
+-- fault; None without values
 abbrev pub prefix : Pairs → ValueStep → Marked → Answer (Option Form)
 prefix binding step [] = Ok None
 prefix binding step (first ∷ rest) = chain step (first ∷ rest) and_then λ x. form_of (part_place first.0) binding x and_then λ form. Ok (Some form)
 
--- the first `count` values, and then each part by one step on forms
+-- the form of a sum or a product: the first `count` operands, which have no variables, are joined
+-- as values, and each later one by a step on forms
 abbrev pub chained : Pairs → ValueStep → Join → ℕ → Marked → List (Mark × Answer Form) → Answer Form
 chained binding step join count values forms = prefix binding step (take count values) and_then λ so_far. joined_forms join so_far (drop count forms)
 
 module _ (limit : ℕ) (binding : Pairs) where
-  -- the sum with the next part, or the difference
+  -- the sum of the form so far and the next term's, or their difference if the term is subtracted
   abbrev pub plus : Join
   plus mark left right = sum_of_forms limit (part_place mark) binding (is_inverse mark) left right
 
-  -- the product with the next part, or the quotient: one of the two is a number
+  -- the product of the form so far and the next factor's, one of which is constant; or, if the
+  -- factor divides, the form so far over the constant of the factor's form
   abbrev pub times : Join
   times mark left right =
       if is_inverse mark then quotient_of limit (part_place mark) binding left right.constant else product_of_forms limit (part_place mark) binding left right
 
 -- ---- expressions
 
--- the form of an element of a variable; 0 if a lag goes past the ends of its set
+-- the form of an element of a variable; 0 if there is no tuple, as a lag goes past the ends of its
+-- set
 abbrev pub element_form : ℕ → Option (List ℕ) → Form
 element_form name None = zero_form
 element_form name (Some t) = column_form (record { symbol = name; tuple = t })
 
 module _ {F : Type 0} (number_of : F → Number) (limit : ℕ) (state : State) where
-  -- the form of an expression without variables, whose first character is at a place: its value
+  -- the constant form of an expression without variables, whose first character is at this place
   abbrev pub form_of_constant : Place → Pairs → tree.Tree F → Answer Form
   form_of_constant at binding e = value number_of limit state binding e and_then form_of at binding
 
   abbrev mutual
-    -- the form of an expression with variables, whose first character is at a place
+    -- the form of an expression with variables, whose first character is at this place, under a
+    -- binding of sets to labels
     pub linear : Place → Pairs → tree.Tree F → Answer Form
     linear at binding (tree.reference place name suffix indices) =
         in_order (labels number_of limit state binding indices) and_then λ those. Ok (element_form name (tuple_of those))
@@ -132,12 +143,13 @@ module _ {F : Type 0} (number_of : F → Number) (limit : ℕ) (state : State) w
         each_holds (unmarked (values number_of limit state binding guards)) and_then λ hold. if hold then linear at binding operand else Ok zero_form
     linear at binding other = form_of_constant at binding other
 
-    -- the forms of the parts of a sum or a product
+    -- the forms of the terms of a sum or the factors of a product, each with its mark
     pub forms : Pairs → tree.Parts F → List (Mark × Answer Form)
     forms binding tree.no_part = []
     forms binding (tree.part mark part rest) =
         (mark, (if has_variables state part then linear (part_place mark) binding part else form_of_constant (part_place mark) binding part)) ∷ forms binding rest
 
-  -- the affine form of an expression whose first character is at a place
+  -- the affine form of an expression whose first character is at this place, under a binding of
+  -- sets to labels; or the first fault
   abbrev pub affine : Place → Pairs → tree.Tree F → Answer Form
   affine at binding e = if has_variables state e then linear at binding e else form_of_constant at binding e

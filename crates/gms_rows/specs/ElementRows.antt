@@ -1,5 +1,5 @@
--- The row of an element of the sets of a definition (GAMS User's Guide, "Equations", "Conditional
--- Equations").
+-- The row of a definition at an element of the definition's sets (GAMS User's Guide, "Equations",
+-- "Conditional Equations").
 use Rattle.std.specs.Prelude.{◌≡◌, ℕ, Bool, true, List, [], Option, Some, None, Ok}
 use Rattle.std.specs.List.{All}
 use Rattle.gq_number.specs.Number.{Number}
@@ -17,35 +17,39 @@ use Rattle.gms_eval.specs.Value.{labels}
 use Rattle.gms_rows.specs.Plain.{ArePlain}
 use Rattle.gms_rows.specs.Rows.{Definition, FormRow, distinct_numbers, sets_among, sense_of, row_form}
 
--- the sets of a definition
+-- the sets among the indices of a definition, without repetition
 abbrev pub sets_of_definition : {F : Type 0} → Definition F → List ℕ
 sets_of_definition d = distinct_numbers (sets_among d.indices)
 
--- the binding of an element
+-- the binding of a definition's sets to the labels of an element
 abbrev pub bound_to : {F : Type 0} → Definition F → List ℕ → Pairs
 bound_to d element = controlled [] (sets_of_definition d) element
 
--- the members of sets are in order
+-- the members of each of these sets are distinct and in order
 abbrev pub AreInOrder : State → List ℕ → Type 0
 AreInOrder state sets = All (λ set. IsOrdered (members_of state set)) sets
 
--- the indices of a definition are labels and sets without lags, and the members of these sets are
--- in order and have one label each
+-- The indices of a definition are labels and sets without lags, and the members of these sets are
+-- in order and have one label each.
 pub record HasPlainSets {F : Type 0} (state : State) (d : Definition F) : Type 0 where
   pub plain : ArePlain state d.indices
   pub ordered : AreInOrder state (sets_of_definition d)
 
 module _ {F : Type 0} (number_of : F → Number) (limit : ℕ) (state : State) where
-  -- whether a condition, if any, holds for an element
+  -- whether the condition of a definition holds under a binding, or the first fault; true without a
+  -- condition
   abbrev pub holds_for : Pairs → Option (Tree F) → Answer Bool
   holds_for binding None = Ok true
   holds_for binding (Some condition) = holds number_of limit state binding condition
 
-  -- the tuple of the row of an element
+  -- the tuple of a definition's row at an element of its sets; None if one of the indices has no
+  -- label
   abbrev pub tuple_at : Definition F → List ℕ → Answer (Option (List ℕ))
   tuple_at d element = in_order (labels number_of limit state (bound_to d element) d.indices) and_then λ those. Ok (tuple_of those)
 
-  -- A row of a definition is that of an element whose condition holds.
+  -- A row of a definition belongs to this element: the element is one of the definition's sets, the
+  -- condition holds for it, and the row has the definition's equation and sense, and the tuple and
+  -- the form at this element.
   pub record IsRowOf (d : Definition F) (row : FormRow) (element : List ℕ) : Type 0 where
     pub there : has (elements state (sets_of_definition d)) element ≡ true
     pub holds : holds_for (bound_to d element) d.condition ≡ Ok true

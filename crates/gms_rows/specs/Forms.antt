@@ -1,5 +1,5 @@
--- Affine forms over exact numbers, and steps on them: on the constants, and on the numbers of each
--- element (Chvatal, "Linear Programming", chapter 1).
+-- Affine forms over exact numbers, and steps on them: on the constants, and on the numbers at each
+-- key (Chvatal, "Linear Programming", chapter 1).
 use Rattle.std.specs.Prelude.{ℕ, pos, Bool, true, false, not, ◌==◌, List, [], ◌∷◌, ◌++◌, length, map, find, Option, Some, None, unwrap_or, Result, Ok, Err, if◌then◌else◌}
 use Rattle.std.specs.FinMap as finite
 use Rattle.gq_number.specs.Number.{Number, whole}
@@ -14,24 +14,25 @@ use Rattle.lp_form.specs.Keys.{key_cmp}
 use Rattle.lp_form.specs.Affine.{Affine}
 use Rattle.lp_form.specs.Forms.{Step, sum_form_step, difference_step, product_form_step, quotient_step}
 
--- A constant, and a number that is not 0 for each of finitely many elements of variables, in the
+-- An affine form: a constant, and a number for each of finitely many elements of variables, in the
 -- order of keys.
 pub record Form : Type 0 where
   pub constant : Number
   pub numbers : finite.FinMap key_cmp Number
 
--- keys with their numbers
+-- each key with the number that the value at its position in the other list means; what the longer
+-- list has beyond the shorter is left out
 abbrev pub keyed : {F : Type 0} → (F → Number) → List Key → List F → List (Key × Number)
 keyed value [] numbers = []
 keyed value (key ∷ keys) [] = []
 keyed value (key ∷ keys) (x ∷ numbers) = (key, value x) ∷ keyed value keys numbers
 
--- the view of a form of the code
+-- the affine form that a form of the code, by its lists of keys and of values, represents
 abbrev pub form_in : {F : Type 0} → (F → Number) → Affine F → Form
 form_in value form =
     record { constant = value form.constant; numbers = finite.from_entries {R = key_cmp} (keyed value form.keys form.numbers) }
 
--- the form of a constant alone
+-- the form of a constant, without elements
 abbrev pub constant_form : Number → Form
 constant_form x = record { constant = x; numbers = finite.empty }
 
@@ -39,15 +40,15 @@ constant_form x = record { constant = x; numbers = finite.empty }
 abbrev pub zero_form : Form
 zero_form = constant_form (whole (pos 0))
 
--- the form of one element of a variable
+-- the form that has the number 1 at one element of a variable, and the constant 0
 abbrev pub column_form : Key → Form
 column_form key = record { constant = whole (pos 0); numbers = finite.insert finite.empty key (whole (pos 1)) }
 
--- the number of an element; 0 if the form does not have it
+-- the number of a form at a key; 0 if the form does not have the key
 abbrev pub number_of_key : Form → Key → Number
 number_of_key form key = unwrap_or (finite.get form.numbers key) (whole (pos 0))
 
--- whether a form is a number: it has no element
+-- whether a form is constant: it has no element of a variable
 abbrev pub is_number : Form → Bool
 is_number form = length (finite.keys form.numbers) == 0
 
@@ -55,7 +56,7 @@ is_number form = length (finite.keys form.numbers) == 0
 abbrev pub is_not_zero : Number → Bool
 is_not_zero x = not (same_number x (whole (pos 0)))
 
--- the numbers of keys, those that are 0 left out
+-- the keys with the numbers that `number_at` gives them, without those whose number is 0
 abbrev pub numbers_at : (Key → Number) → List Key → finite.FinMap key_cmp Number
 numbers_at number_at keys =
     let all = finite.from_entries {R = key_cmp} (map (λ key. (key, number_at key)) keys) in
@@ -65,8 +66,8 @@ numbers_at number_at keys =
 abbrev pub keys_of_two : Form → Form → List Key
 keys_of_two a b = finite.keys (finite.from_entries {R = key_cmp} (finite.entries a.numbers ++ finite.entries b.numbers))
 
--- The form that steps give on a constant and at keys; or the first key at which the step does not
--- fit, where the constant comes before all keys.
+-- Ok: the form with the results of the step on the constant and of the step at each key. Err: the
+-- first step that does not fit, that of the constant (None) or of a key; the constant comes first.
 abbrev pub entrywise : Step → (Key → Step) → List Key → Result Form (Option Key)
 entrywise constant at keys =
     if not constant.fits then Err None else
@@ -75,45 +76,48 @@ entrywise constant at keys =
       | None ↦ Ok (record { constant = constant.number; numbers = numbers_at (λ key. (at key).number) keys })
     ]
 
--- a step on the constants of two forms, and on their numbers at each key
+-- a binary step applied to the constants of two forms, and to their numbers at each key
 abbrev pub entries_of_two : (Number → Number → Step) → Form → Form → Result Form (Option Key)
 entries_of_two step a b =
     entrywise (step a.constant b.constant) (λ key. step (number_of_key a key) (number_of_key b key)) (keys_of_two a b)
 
--- a step on the constant of a form and a number, and on the form's number at each key and that
--- number
+-- a binary step with the number x as its right operand, applied to the constant of a form and to
+-- the form's number at each key
 abbrev pub entries_by : (Number → Number → Step) → Form → Number → Result Form (Option Key)
 entries_by step a x = entrywise (step a.constant x) (λ key. step (number_of_key a key) x) (finite.keys a.numbers)
 
--- the number that a step reads: the constant of a form, or the number of a key
+-- the operand of a step on a form: the constant for None, else the form's number at this key
 abbrev pub number_in_form : Form → Option Key → Extended
 number_in_form form None = number form.constant
 number_in_form form (Some key) = number (number_of_key form key)
 
--- the form of steps at a place, or the fault Limit with the numbers of the step that does not fit
+-- the resulting form; or the fault Limit at this place, with the left and right operand of the step
+-- that does not fit
 abbrev pub where_fits : Place → Pairs → (Option Key → Extended) → (Option Key → Extended) → Result Form (Option Key) → Answer Form
 where_fits at binding left right (Ok form) = Ok form
 where_fits at binding left right (Err key) = Err (faulted Limit at binding (left key) (right key))
 
 module _ (limit : ℕ) (at : Place) (binding : Pairs) where
-  -- the sum of two forms, or their difference
+  -- the sum of the forms `a` and `b`, or, if `subtracts` is true, their difference; or the fault
+  -- Limit
   abbrev pub sum_of_forms : Bool → Form → Form → Answer Form
   sum_of_forms subtracts a b =
       where_fits at binding (number_in_form a) (number_in_form b) (entries_of_two (if subtracts then difference_step limit else sum_form_step limit) a b)
 
-  -- a form times a number, or over one that is not 0
+  -- a form times a number, or, if `divides` is true, over a number other than 0; or the fault Limit
   abbrev pub scaled_form : Bool → Form → Number → Answer Form
   scaled_form divides a x =
       where_fits at binding (number_in_form a) (λ key. number x) (entries_by (if divides then quotient_step limit else product_form_step limit) a x)
 
-  -- a number times a form
+  -- a number times a form: in each step the number is the left operand, and the right one is of the
+  -- form
   abbrev pub multiple : Number → Form → Answer Form
   multiple x a = where_fits at binding (λ key. number x) (number_in_form a) (entries_by (product_form_step limit) a x)
 
-  -- the product of two forms, one of which is a number
+  -- the product of two forms, one of which is constant
   abbrev pub product_of_forms : Form → Form → Answer Form
   product_of_forms a b = if is_number b then scaled_form false a b.constant else multiple a.constant b
 
-  -- a form over a number; over 0 there is none
+  -- a form over a number; the fault Divide if the number is 0, and Limit if a quotient does not fit
   abbrev pub quotient_of : Form → Number → Answer Form
   quotient_of a x = if is_not_zero x then scaled_form true a x else Err (faulted Divide at binding (number a.constant) (number x))

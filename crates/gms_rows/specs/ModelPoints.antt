@@ -20,7 +20,7 @@ use Rattle.gms_rows.specs.Rows.{Definition, sense_of, definitions, definition_of
 use Rattle.gms_rows.specs.ElementRows.{sets_of_definition, bound_to}
 use Rattle.gms_rows.specs.PointValues.{value_at, is_linear}
 
--- the definitions of the equations of a model, in order
+-- the definitions of the equations of a model, in the order of the equations
 abbrev pub definitions_of_model : {F : Type 0} → List (Stmt F) → ℕ → List (Definition F)
 definitions_of_model statements model = flat_map (definition_of (definitions statements)) (equations_of statements model)
 
@@ -28,33 +28,35 @@ definitions_of_model statements model = flat_map (definition_of (definitions sta
 abbrev pub IsLinearDefinition : {F : Type 0} → State → Definition F → Type 0
 IsLinearDefinition state d = (is_linear state d.left ≡ true) × (is_linear state d.right ≡ true)
 
--- the two sides are numbers that compare as an equation says
+-- both sides of an equation are numbers, and the left one compares with the right one as `side`,
+-- the relation of the equation, says
 abbrev pub Compare : Side → Answer Extended → Answer Extended → Type 0
 Compare side (Ok (number left)) (Ok (number right)) = KeepsSense (sense_of side) left right
 Compare side left right = ⊥
 
--- whether the labels of indices exist, so that they have a tuple
+-- whether all labels of indices exist, so that the indices have a tuple; false for a fault
 abbrev pub is_there : Answer (List (Option ℕ)) → Bool
 is_there (Ok labels) = is_some (tuple_of labels)
 is_there (Err fault) = false
 
 module _ {F : Type 0} (number_of : F → Number) (limit : ℕ) (state : State) (point : Key → Number) where
-  -- under a binding the two sides of a definition compare at the point as its equation says
+  -- under a binding of sets to labels, the left side of a definition compares with the right one at
+  -- the point as the equation says
   abbrev pub SidesCompare : Definition F → Pairs → Type 0
   SidesCompare d binding =
       Compare d.side (value_at number_of limit state point binding d.left) (value_at number_of limit state point binding d.right)
 
-  -- a point satisfies a definition: for each element of its domain that has a tuple the two sides
-  -- compare
+  -- the point satisfies a definition: the sides compare for each element of the definition's domain
+  -- at which the indices have a tuple
   abbrev pub KeepsDefinition : Definition F → Type 0
   KeepsDefinition d = (elements : List (List ℕ)) → domain number_of limit state [] d.at (control_over (sets_of_definition d) d.condition) ≡ Ok elements →
       All (λ element. is_there (in_order (labels number_of limit state (bound_to d element) d.indices)) ≡ true → SidesCompare d (bound_to d element)) elements
 
-  -- a point satisfies a model: the definition of each of its equations
+  -- the point satisfies the definition of each equation of a model
   abbrev pub KeepsModel : List (Stmt F) → ℕ → Type 0
   KeepsModel statements model = All KeepsDefinition (definitions_of_model statements model)
 
--- a point satisfies the bounds that elements of variables have in a state
+-- the point is within the bounds that these elements of variables have in a state
 abbrev pub KeepsBoundsOf : State → (Key → Number) → List Key → Type 0
 KeepsBoundsOf state point keys =
     All (λ (key : Key). KeepsLower (attributes_of state key.symbol key.tuple).lower (point key) × KeepsUpper (attributes_of state key.symbol key.tuple).upper (point key)) keys

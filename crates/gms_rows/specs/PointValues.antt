@@ -1,7 +1,7 @@
 -- The value of an expression at a point, which gives each element of a variable a number: its
 -- variables are read there (GAMS User's Guide, "Equations"; Chvatal, "Linear Programming", chapter
--- 1). A part without variables has its usual value; the steps that join parts with variables are
--- those of exact numbers, without limit.
+-- 1). An operand without variables has its usual value; the steps that join operands with variables
+-- are those of exact numbers, without limit.
 use Rattle.std.specs.Prelude.{ℕ, Bool, true, false, not, ◌&&◌, ◌||◌, List, [], ◌∷◌, map, Option, Some, None, Ok, Err, if◌then◌else◌}
 use Rattle.gms_labels.specs.declared.place.Place.{Place}
 use Rattle.gq_number.specs.Number.{Number, ◌+ℚ◌, ◌-ℚ◌, ◌*ℚ◌, ◌/ℚ◌}
@@ -25,67 +25,76 @@ use Rattle.gms_rows.specs.Affine.{has_variables, some_has_variables, is_inverse}
 
 -- ---- steps without limit
 
--- two numbers have a sum, however large; with an infinity or NA the step is that of extended
--- numbers, which has no limit there
+-- the sum of two numbers, under no limit; if one is an infinity or NA, their sum as extended
+-- numbers, on which the limit 0 has no effect
 abbrev pub exact_sum : Extended → Extended → Outcome
 exact_sum (number x) (number y) = Ok (number (x +ℚ y))
 exact_sum x y = sum 0 x y
 
--- two numbers have a difference, however large; otherwise the step is that of extended numbers
+-- the difference of two numbers, under no limit; if one is an infinity or NA, their difference as
+-- extended numbers, on which the limit 0 has no effect
 abbrev pub exact_difference : Extended → Extended → Outcome
 exact_difference (number x) (number y) = Ok (number (x -ℚ y))
 exact_difference x y = difference 0 x y
 
--- two numbers have a product, however large; otherwise the step is that of extended numbers
+-- the product of two numbers, under no limit; if one is an infinity or NA, their product as
+-- extended numbers, on which the limit 0 has no effect
 abbrev pub exact_product : Extended → Extended → Outcome
 exact_product (number x) (number y) = Ok (number (x *ℚ y))
 exact_product x y = product 0 x y
 
--- two numbers have a quotient, unless the second is 0; otherwise the step is that of extended
--- numbers
+-- the quotient of two numbers, under no limit, or the fault Divide if the second is 0; if one is an
+-- infinity or NA, their quotient as extended numbers, on which the limit 0 has no effect
 abbrev pub exact_quotient : Extended → Extended → Outcome
 exact_quotient (number x) (number y) = if is_zero y then Err Divide else Ok (number (x /ℚ y))
 exact_quotient x y = quotient 0 x y
 
 module _ (binding : Pairs) where
-  -- a sum or a difference, by the sign before the right operand
+  -- the step that joins the sum so far, x, with the next term: their sum, or their difference if
+  -- the term's mark says that it is subtracted
   abbrev pub exact_sum_step : ValueStep
   exact_sum_step (signed at subtracts) x answer =
       answer and_then λ y. taken at binding x y (if subtracts then exact_difference x y else exact_sum x y)
   exact_sum_step mark x answer = answer
 
-  -- a product or a quotient
+  -- the step that joins the product so far, x, with the next factor: their product, or their
+  -- quotient if the factor's mark says that it divides
   abbrev pub exact_product_step : ValueStep
   exact_product_step (signed at divides) x answer =
       answer and_then λ y. taken at binding x y (if divides then exact_quotient x y else exact_product x y)
   exact_product_step mark x answer = answer
 
-  -- a step of a fold: the value so far with that of the next body
+  -- the step of a fold at this place: the operation of the fold on the value so far, x, and the
+  -- value of the next body, y
   abbrev pub exact_join : FoldOp → Place → Extended → Extended → Answer Extended
   exact_join Sum at x y = taken at binding x y (exact_sum x y)
   exact_join Prod at x y = taken at binding x y (exact_product x y)
   exact_join Smin at x y = Ok (lesser x y)
   exact_join Smax at x y = Ok (greater x y)
 
-  -- a step of a fold
+  -- the step of a fold that joins the value so far, x, with the answer for the next body, which may
+  -- be a fault
   abbrev pub exact_fold_step : FoldOp → Place → ValueStep
   exact_fold_step op at mark x answer = answer and_then λ y. exact_join op at x y
 
-  -- the values of a fold's bodies, joined in sequence
+  -- the values of a fold's bodies, joined in sequence; the fault EmptyExtreme for a greatest or a
+  -- least of none
   abbrev pub exact_folded : FoldOp → Place → Marked → Answer Extended
   exact_folded op at bodies =
       nodes.joined (exact_fold_step op at) (Err (faulted EmptyExtreme at binding nothing nothing)) (start_of op) bodies
 
 -- ---- the value at a point
 
--- the number of an element of a variable at a point; 0 if a lag goes past the ends of its set
+-- the number of an element of a variable at the point; 0 if there is no tuple, as a lag goes past
+-- the ends of its set
 abbrev pub element_at : (Key → Number) → ℕ → Option (List ℕ) → Extended
 element_at point name None = nothing
 element_at point name (Some t) = number (point (record { symbol = name; tuple = t }))
 
 module _ {F : Type 0} (number_of : F → Number) (limit : ℕ) (state : State) (point : Key → Number) where
   abbrev mutual
-    -- the value of an expression with variables, which are read at the point
+    -- the value of an expression with variables, which are read at the point, under a binding of
+    -- sets to labels
     pub read_at : Pairs → tree.Tree F → Answer Extended
     read_at binding (tree.reference at name suffix indices) =
         in_order (labels number_of limit state binding indices) and_then λ those. Ok (element_at point name (tuple_of those))
@@ -99,19 +108,20 @@ module _ {F : Type 0} (number_of : F → Number) (limit : ℕ) (state : State) (
         each_holds (unmarked (values number_of limit state binding guards)) and_then λ hold. if hold then read_at binding operand else Ok nothing
     read_at binding other = value number_of limit state binding other
 
-    -- the values of the parts of a sum or a product, each with its mark
+    -- the values of the terms of a sum or the factors of a product at the point, each with its mark
     pub values_at : Pairs → tree.Parts F → Marked
     values_at binding tree.no_part = []
     values_at binding (tree.part mark part rest) =
         (mark, (if has_variables state part then read_at binding part else value number_of limit state binding part)) ∷ values_at binding rest
 
-  -- the value of an expression at the point
+  -- the value of an expression at the point, under a binding of sets to labels
   abbrev pub value_at : Pairs → tree.Tree F → Answer Extended
   value_at binding e = if has_variables state e then read_at binding e else value number_of limit state binding e
 
 -- ---- expressions that are linear in the variables
 
--- whether a part has a place and a sign, as each part of a sum or a product has
+-- whether a mark is that of a term or a factor: it has a place, and says whether the term is
+-- subtracted or the factor divides
 abbrev pub is_signed : Mark → Bool
 is_signed (signed at inverse) = true
 is_signed mark = false
@@ -122,21 +132,22 @@ is_sum_fold Sum = true
 is_sum_fold op = false
 
 module _ {F : Type 0} (state : State) where
-  -- of the factors after the first at most one has variables, and it does not divide
+  -- whether of these factors, none of which is the first, at most one has variables, and that one
+  -- does not divide
   abbrev pub are_later_factors : tree.Parts F → Bool
   are_later_factors tree.no_part = true
   are_later_factors (tree.part mark part rest) =
       if has_variables state part then not (is_inverse mark) && not (some_has_variables state rest) else are_later_factors rest
 
-  -- at most one factor has variables, and what divides has none
+  -- whether of the factors of a product at most one has variables, and that one does not divide
   abbrev pub are_factors : tree.Parts F → Bool
   are_factors tree.no_part = true
   are_factors (tree.part mark part rest) =
       if has_variables state part then not (some_has_variables state rest) else are_later_factors rest
 
   abbrev mutual
-    -- whether an expression is linear in the variables: of a product at most one factor, and no
-    -- divisor, has variables; of the folds, the body of a sum may
+    -- whether an expression is linear in the variables: in a product at most one factor, and no
+    -- divisor, has variables; of folds, only the body of a sum may have them
     pub is_linear : tree.Tree F → Bool
     is_linear (tree.fold_over at op control body) = not (has_variables state body) || (is_sum_fold op && is_linear body)
     is_linear (tree.negated operand) = is_linear operand
@@ -145,7 +156,7 @@ module _ {F : Type 0} (state : State) where
     is_linear (tree.guarded operand guards) = is_linear operand
     is_linear other = true
 
-    -- whether the parts of a sum or a product are linear in the variables
+    -- whether each term of a sum or factor of a product is linear in the variables
     pub are_linear : tree.Parts F → Bool
     are_linear tree.no_part = true
     are_linear (tree.part mark part rest) = is_signed mark && (is_linear part && are_linear rest)

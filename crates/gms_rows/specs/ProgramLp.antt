@@ -18,7 +18,7 @@ use Rattle.lp_form.specs.declared.key.Key.{Key}
 use Rattle.lp_form.specs.Keys.{key_cmp, same_key}
 use Rattle.gms_rows.specs.Rows.{FormRow, rows_of_model}
 
--- keys in order, without repetition
+-- these keys in order, without repetition
 abbrev pub ordered_keys : List Key → List Key
 ordered_keys keys = finite.keys (finite.from_entries {R = key_cmp} (map (λ key. (key, true)) keys))
 
@@ -26,21 +26,22 @@ ordered_keys keys = finite.keys (finite.from_entries {R = key_cmp} (map (λ key.
 abbrev pub column_keys : List FormRow → Key → List Key
 column_keys rows objective = ordered_keys (objective ∷ flat_map (λ row. finite.keys row.form.numbers) rows)
 
--- the place of a key among keys
+-- the position of a key in a list of keys, from 0; 0 if it is not listed
 abbrev pub place_of_key : List Key → Key → ℕ
 place_of_key keys key = unwrap_or (position (same_key key) keys) 0
 
--- a column: an element with its bounds
+-- the column of an element of a variable, with the bounds that it has in the state
 abbrev pub column_of : State → Key → Column Number
 column_of state key =
     record { key = key; lower = (attributes_of state key.symbol key.tuple).lower; upper = (attributes_of state key.symbol key.tuple).upper }
 
--- a row: its numbers with the places of their columns, and on the right side the negated constant
+-- a row of the linear program, where `keys` has the keys of the columns: each number of the form
+-- with its column, and on the right side the negated constant of the form
 abbrev pub placed : List Key → FormRow → Row Number
 placed keys row =
     record { key = row.key; sense = row.sense; right = neg_ℚ row.form.constant; entries = map (λ entry. (place_of_key keys entry.0, entry.1)) (finite.entries row.form.numbers) }
 
--- the linear program of rows with an objective
+-- the linear program that has these rows, and the element `objective` to maximize or minimize
 abbrev pub program_of : State → List FormRow → Key → Bool → Lp Number
 program_of state rows objective maximize =
     let keys = column_keys rows objective in
@@ -48,13 +49,13 @@ program_of state rows objective maximize =
 
 -- ---- the size of its standard form
 
--- the fault of `count` rows or columns; the reported count is at most the greatest that is counted
+-- the fault of too many rows or columns at a solve; the reported count is at most `most_counted`
 abbrev pub too_many : StopKind → Place → ℕ → Fault
 too_many kind at count =
     record { kind = kind; at = at; binding = []; left = nothing; right = nothing; count = min count most_counted }
 
--- a linear program of over 1,500 standard rows, or else of over 3,000 standard columns, is a fault
--- at the solve
+-- the linear program, or a fault at the place of the solve: TooManyRows if the standard form has
+-- over 1,500 rows, else TooManyColumns if it has over 3,000 variables
 abbrev pub sized_program : Place → Lp Number → Answer (Lp Number)
 sized_program at lp =
     if nat_lt 1500 (standard_rows lp) then Err (too_many TooManyRows at (standard_rows lp)) else
@@ -62,7 +63,7 @@ sized_program at lp =
     Ok lp
 
 -- The linear program of a solve at a place, in a state: the rows of the model, and the objective, a
--- variable without indices.
+-- variable without indices; or the first fault.
 abbrev pub program_lp : {F : Type 0} → (F → Number) → ℕ → State → List (Stmt F) → ℕ → ℕ → Bool → Place → Answer (Lp Number)
 program_lp number_of limit state statements model objective maximize at =
     rows_of_model number_of limit state statements model and_then λ rows. sized_program at (program_of state rows (record { symbol = objective; tuple = [] }) maximize)

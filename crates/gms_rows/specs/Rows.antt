@@ -28,12 +28,13 @@ use Rattle.gms_rows.specs.Affine.{affine}
 
 -- ---- equations
 
--- numbers without repetition, each where it occurs first
+-- these numbers, without repetition, in the order of their first occurrences
 abbrev pub distinct_numbers : List ℕ → List ℕ
 distinct_numbers [] = []
 distinct_numbers (n ∷ ns) = n ∷ filter (λ m. not (m == n)) (distinct_numbers ns)
 
--- The definition of an equation.
+-- The definition of an equation: its two sides, how they compare, and for which elements. The
+-- places are those of the statement and of the two sides in the source.
 pub record Definition (F : Type 0) : Type 0 where
   pub equation : ℕ
   -- the place of its statement
@@ -46,30 +47,32 @@ pub record Definition (F : Type 0) : Type 0 where
   pub right_at : Place
   pub right : tree.Tree F
 
--- the equations of a declared model: those that are listed, or all that were declared before
+-- the equations of a model that is declared: for `/all/` those in `declared`, which are declared
+-- before it, else those that it lists, without repetition
 abbrev pub listed_equations : List ℕ → ModelDecl → List ℕ
 listed_equations declared model = if model.all then declared else distinct_numbers (map (λ (equation : Named). equation.name) model.equations)
 
--- the equations of the first of these models that has a name
+-- the equations of the first of these models that has this name, where `declared` has the equations
+-- that are declared before; None if no model has the name
 abbrev pub found : List ℕ → ℕ → List ModelDecl → Option (List ℕ)
 found declared name [] = None
 found declared name (model ∷ models) = if model.named.name == name then Some (listed_equations declared model) else found declared name models
 
 module _ {F : Type 0} where
-  -- the equations that an act declares, in order
+  -- the equations that a statement declares, in order
   abbrev pub equations_declared_by : Act F → List ℕ
   equations_declared_by (Declare declaring.Equation items) = map (λ (item : Decl F). item.named.name) items
   equations_declared_by act = []
 
-  -- whether an index has a lag
+  -- whether one of these indices has a lag
   abbrev pub has_lag : tree.Indices F → Bool
   has_lag tree.no_index = false
   has_lag (tree.label label rest) = has_lag rest
   has_lag (tree.set set rest) = has_lag rest
   has_lag (tree.lagged set op at amount rest) = true
 
-  -- the definition that a statement is; no definition of an accepted program has a lag among its
-  -- indices, and one that has defines nothing
+  -- the definition that a statement at this place makes, as a list of one; empty if it makes none.
+  -- A definition with a lag among its indices, which no accepted program has, counts as none
   abbrev pub defined_at : Place → Act F → List (Definition F)
   defined_at at (Define equation indices condition left_at left side right_at right) =
       if has_lag (indices_of (map index_tree indices)) then [] else record {
@@ -85,7 +88,7 @@ module _ {F : Type 0} where
       } ∷ []
   defined_at at act = []
 
-  -- the definitions of a program
+  -- the definitions of a program, in order
   abbrev pub definitions : List (Stmt F) → List (Definition F)
   definitions statements = flat_map (λ (s : Stmt F). defined_at s.at s.act) statements
 
@@ -94,7 +97,8 @@ module _ {F : Type 0} where
   models_of (Model models) = models
   models_of act = []
 
-  -- the equations of a model, by its first declaration, where these equations were declared before
+  -- the equations of a model, by its first declaration in these statements, before which the
+  -- equations `declared` are declared; empty if the model is not declared
   abbrev pub equations_from : List ℕ → ℕ → List (Stmt F) → List ℕ
   equations_from declared name [] = []
   equations_from declared name (s ∷ statements) =
@@ -103,11 +107,11 @@ module _ {F : Type 0} where
         | None ↦ equations_from (declared ++ equations_declared_by s.act) name statements
       ]
 
-  -- the equations of a model, in order
+  -- the equations of a model, in order, by its first declaration in the program
   abbrev pub equations_of : List (Stmt F) → ℕ → List ℕ
   equations_of statements name = equations_from [] name statements
 
-  -- the definition of an equation, if it has one
+  -- the first definition of an equation, as a list of one; empty if it has none
   abbrev pub definition_of : List (Definition F) → ℕ → List (Definition F)
   definition_of [] name = []
   definition_of (d ∷ ds) name = if d.equation == name then d ∷ [] else definition_of ds name
@@ -121,36 +125,36 @@ module _ {F : Type 0} where
   sets_among (tree.set set rest) = set ∷ sets_among rest
   sets_among (tree.lagged set op at amount rest) = set ∷ sets_among rest
 
--- How the sum of a row and its right side compare.
+-- how the sum of a row and its right side compare, by how the two sides of the equation do
 abbrev pub sense_of : Side → Sense
 sense_of side.E = sense.E
 sense_of side.L = sense.L
 sense_of side.G = sense.G
 sense_of side.N = sense.N
 
--- A row: an element of an equation, how its sides compare, and the form of the left side less the
--- right one.
+-- A row of a model: its key, that is, the equation and the tuple; how its sides compare; and the
+-- form of the left side less the right one.
 pub record FormRow : Type 0 where
   pub key : Key
   pub sense : Sense
   pub form : Form
 
--- the rows that exist
+-- the rows of this list, without the entries that are None
 abbrev pub present_rows : List (Option FormRow) → List FormRow
 present_rows [] = []
 present_rows (None ∷ rest) = present_rows rest
 present_rows (Some row ∷ rest) = row ∷ present_rows rest
 
 module _ {F : Type 0} (number_of : F → Number) (limit : ℕ) (state : State) where
-  -- the form of a row under a binding; the step between the two sides has the place of the right
-  -- one
+  -- the form of a definition's row under a binding of sets to labels: the left side less the right
+  -- one; a fault of the subtraction has the place of the right side
   abbrev pub row_form : Definition F → Pairs → Answer Form
   row_form d binding =
       affine number_of limit state d.left_at binding d.left and_then λ left.
       affine number_of limit state d.right_at binding d.right and_then λ right.
       sum_of_forms limit d.right_at binding true left right
 
-  -- the row of an element, if it exists
+  -- the row of a definition under a binding of sets to labels; None if the indices have no tuple
   abbrev pub row_under : Definition F → Pairs → Answer (Option FormRow)
   row_under d binding =
       in_order (labels number_of limit state binding d.indices) and_then λ those.
@@ -159,7 +163,8 @@ module _ {F : Type 0} (number_of : F → Number) (limit : ℕ) (state : State) w
         | Some t ↦ row_form d binding and_then λ form. Ok (Some (record { key = record { symbol = d.equation; tuple = t }; sense = sense_of d.side; form = form }))
       ]
 
-  -- the rows of a definition: one for each element of its domain, and no other
+  -- the rows of a definition, one for each element of its domain at which the indices have a tuple;
+  -- or the first fault
   abbrev pub rows_of_definition : Definition F → Answer (List FormRow)
   rows_of_definition d =
       let sets = distinct_numbers (sets_among d.indices) in

@@ -35,7 +35,7 @@ fn order_once<T: Ord + Drop>(values: &mut Vec<T>) -> Result<(), AllocError>
     Ok(())
 }
 
-/// The keys that occur in rows, and that of the objective, in order, without repetition.
+/// The keys that occur in the rows, and that of the objective, in order, without repetition.
 pub(crate) fn keys_of<F: ExactField>(
     alloc: Global,
     rows: &[FormRow<F>],
@@ -56,7 +56,7 @@ pub(crate) fn keys_of<F: ExactField>(
     Ok(keys)
 }
 
-/// The place of a key among keys in order, of which it is one.
+/// The position of a key among keys that are in order, of which it is one.
 pub(crate) fn place_of(keys: &[Key], key: &Key) -> u32
     requires ordered { AreOrdered keys.now }
     requires there { is_among keys.now key.now ≡ true }

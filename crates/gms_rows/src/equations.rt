@@ -90,7 +90,7 @@ fn definition_at<F: ExactField>(statement: &Stmt<F>, name: u32) -> Option<Defini
     }
 }
 
-/// The definition of a name by the statement that was noted for it.
+/// The definition of a name by the statement noted for the name; `None` if the statement is none.
 pub(crate) fn noted_definition<'s, F: ExactField>(
     noted: &[Option<&'s Stmt<F>>],
     name: u32,
@@ -136,8 +136,7 @@ fn defined_name<F: ExactField>(statement: &Stmt<F>) -> Option<u32>
     }
 }
 
-/// The statements that define names, each by the number of its name: the first that the program
-/// has.
+/// For each number of a name, the first statement of the program that defines the name, if any.
 pub(crate) fn noted_statements<'s, F: ExactField>(
     alloc: Global,
     program: &'s Program<F>,
@@ -223,8 +222,9 @@ fn push_declared<F: ExactField>(names: &mut Names, act: &Act<F>) -> Result<(), A
     }
 }
 
-/// The equations of a model, in order, by its first declaration. GAMS User's Guide, "Model and
-/// Solve Statements".
+/// The numbers of the names of a model's equations, in order, as the first declaration of the model
+/// says; empty if no statement declares the model. The error is out of memory. GAMS User's Guide,
+/// "Model and Solve Statements".
 pub fn equations_of<F: ExactField>(
     alloc: Global,
     program: &Program<F>,

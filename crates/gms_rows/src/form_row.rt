@@ -1,9 +1,9 @@
-//! A row before its columns have places.
+//! A row of a model, before its columns have numbers.
 use gq_field::ExactField;
 use lp_core::Sense;
 use lp_form::{Form, Key};
 
-/// A row before its columns have places.
+/// A row of a model, before its columns have numbers.
 #[derive(Drop)]
 pub(crate) struct FormRow<F: ExactField> {
     /// The element of the equation.

@@ -97,12 +97,13 @@ fn program_of<F: ExactField>(
 }
 
 /// The linear program that a solve means in a state: the rows of the model's equations, one for
-/// each element of their domains; the columns of the objective and of the elements of variables
-/// that occur in the rows, with their bounds; and the objective.
+/// each element of their domains at which their conditions hold; the columns of the objective and
+/// of the elements of variables that occur in the rows, with their bounds; and the objective.
 ///
-/// `at` is the place of the solve. A stop is the first fault of the rows; or else `TooManyRows`
-/// where the standard form has over 1,500 rows; or else `TooManyColumns` where it has over 3,000
-/// columns. GAMS User's Guide, "Equations", "Model and Solve Statements".
+/// `at` is the place of the solve. The error is out of memory, or a stop: the first fault of the
+/// rows; else `TooManyRows` if the standard form has over 1,500 rows; else `TooManyColumns` if the
+/// standard form has over 3,000 variables. GAMS User's Guide, "Equations", "Model and Solve
+/// Statements".
 pub fn generate<F: ExactField>(
     alloc: Global,
     store: &Store<F>,

@@ -26,11 +26,11 @@ ghost use Rattle.gms_rows.specs.Rows.{Definition, FormRow, rows_of_definition};
 
 use gq_field::ExactField;
 
-/// The rows of a definition are exactly one for each element of its sets whose condition holds, if
-/// its indices are labels and sets without lags whose members are in order and have one label. Each
-/// row is that of such an element. At the tuple of an element whose condition holds there is one
-/// row; at that of any other element there is none. No two rows have the same key. GAMS User's
-/// Guide, "Equations", "Conditional Equations".
+/// A definition whose indices are labels and sets without lags, where the members of these sets are
+/// in order and have one label, has exactly one row for each element of its sets whose condition
+/// holds. Each row is that of such an element. At the tuple of an element whose condition holds
+/// there is one row; at that of any other element there is none. No two rows have the same key.
+/// GAMS User's Guide, "Equations", "Conditional Equations".
 pub fn row_laws<F: ExactField>()
     ensures sources { (state : State) (d : Definition F) (rows : List FormRow) → HasPlainSets state d →
         rows_of_definition F.value F.limit state d ≡ Ok rows →
@@ -47,9 +47,10 @@ pub fn row_laws<F: ExactField>()
 {}
 
 /// The value of a form at a point, which gives each element of a variable a number. The value of a
-/// sum or a difference of two forms is that of their values there; the value of a product with a
-/// number, or a quotient, is that of the form's value and the number. Chvatal, "Linear
-/// Programming", chapter 1.
+/// sum or a difference of two forms is the sum or difference of their values. The value of a
+/// product of two forms, one of which is constant, is the product of their values. The value of a
+/// quotient of a form and a number is the quotient of the form's value and the number. Chvatal,
+/// "Linear Programming", chapter 1.
 pub fn form_laws<F: ExactField>()
     ensures sum { (point : Key → Number) (at : Place) (b : Pairs) (subtracts : Bool) (left right form : Form) →
         sum_of_forms F.limit at b subtracts left right ≡ Ok form →

@@ -26,14 +26,15 @@ use gq_field::ExactField;
 use lp_form::{Form, FormSum, Key};
 use std::alloc::Global;
 
-/// The affine form of an expression in a state, where its controlled sets stand for the labels of a
-/// binding: a constant, and a number for each element of a variable.
+/// The affine form of an expression in a state: a constant, and a coefficient for each element of a
+/// variable. The binding `b` gives each controlled set its label.
 ///
-/// The expression is linear, and its first character is at `at`. A part without variables has its
-/// value, and so have the parts of a sum or a product before the first with variables; if that is
-/// no number the stop is `Undefined` at its first character. All other steps are done entry by
-/// entry, the constant first, and a stop is the first that does not fit. GAMS User's Guide,
-/// "Equations".
+/// The expression is linear in the variables, and its first character is at `at`. The form of an
+/// operand without variables is the constant of its value. The operands of a sum or a product
+/// before the first with variables are joined as values; if the result is no number, the stop is
+/// `Undefined` at the first of them. All other steps are done entry by entry, the constant first;
+/// the first step whose result does not fit under the field's limit is a stop. The error is the
+/// first stop, or out of memory. GAMS User's Guide, "Equations".
 #[cycle(affine)]
 pub fn affine<F: ExactField>(
     alloc: Global,

@@ -1,5 +1,5 @@
-//! How many rows and columns the standard form of the rows of a model has, and that they are not
-//! too many.
+//! How many rows and variables the standard form of a model's rows has, and whether they are too
+//! many.
 ghost use Rattle.std.specs.Prelude.{◌≡◌, ◌≤◌, ◌+◌, [], min, sum_by, OnOk};
 ghost use Rattle.gq_number.specs.Number.{Number};
 ghost use Rattle.lp_core.specs.WellFormed.{rows_of_sense, rows_of_bounds, variables_of_bounds, standard_rows, standard_columns};

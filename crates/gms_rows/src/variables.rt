@@ -9,8 +9,9 @@ use gms_labels::Place;
 use gms_store::{Store, SymbolKind};
 use gq_field::ExactField;
 
-/// Whether a variable occurs in an expression for its unknown value: outside conditions, relations,
-/// operands of logic and amounts of lags, where a checked program has none.
+/// Whether the unknown value of a variable occurs in an expression. Conditions, relations, operands
+/// of logic and amounts of lags are not searched, since a checked program has no such variable
+/// there.
 #[cycle(variables)]
 pub(crate) fn has_variables<F: ExactField>(store: &Store<F>, e: &Expr<F>) -> bool
     ensures { result ≡ has_variables store.now (tree_of e.now) }

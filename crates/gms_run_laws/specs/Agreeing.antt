@@ -11,8 +11,8 @@ use Rattle.gms_exec.specs.Run.{Course, World}
 use Rattle.lp_core.specs.declared.answer.Answer.{Answer}
 use Rattle.gms_run_laws.specs.Names.{Each, models_solved, statement_names}
 
--- Names that pass a test have the same symbols in two states, and so have the sets that they stand
--- for.
+-- Each name for which the test is true has the same symbol in both states, and an alias among them
+-- also the same symbol of its set.
 pub record AgreeOn (test : ℕ → Bool) (one other : State) : Type 0 where
   pub own : (n : ℕ) → test n ≡ true → symbol_at other n ≡ symbol_at one n
   pub occurs : (n : ℕ) → test n ≡ true → symbol_of other n ≡ symbol_of one n
@@ -21,35 +21,37 @@ pub record AgreeOn (test : ℕ → Bool) (one other : State) : Type 0 where
 abbrev pub declares : State → ℕ → Bool
 declares state name = not (is_undeclared (symbol_at state name).content)
 
--- What each declared name of a state stands for is declared too.
+-- The set of which a declared name of the state is an alias is declared too.
 abbrev pub IsClosed : State → Type 0
 IsClosed state = (n : ℕ) → declares state n ≡ true → declares state (base_of state n) ≡ true
 
--- A state has all names of another, and what the other declares is the same in both; so are the
--- settings.
+-- The state has at least as many names as the other one, each name that the other declares has the
+-- same symbol in both, and the settings are the same.
 pub record HasAll (state other : State) : Type 0 where
   pub many : length other.symbols ≤ length state.symbols
   pub same : overlaid state other ≡ state
 
--- Statements name only what a state declares, also in the definitions of the models that they solve
--- in a world.
+-- Each name on which the statements depend in a world is declared in the state, also those in the
+-- definitions of the models that they solve.
 abbrev pub NameDeclared : {F : Type 0} → World F → State → List (Stmt F) → Type 0
 NameDeclared world state statements = Each (declares state) (flat_map (statement_names world) statements)
 
--- models have the same definitions in two lists of statements
+-- each of these models has the same definitions in both lists of statements
 abbrev pub DefineAlike : {F : Type 0} → List (Stmt F) → List (Stmt F) → List ℕ → Type 0
 DefineAlike statements others [] = Unit {0}
 DefineAlike statements others (model ∷ models) =
     (definitions_of_model others model ≡ definitions_of_model statements model) × DefineAlike statements others models
 
--- The models that statements solve have the same definitions in two worlds, which have the same
--- solvers.
+-- The two worlds have the same solvers, and each model that the statements solve has the same
+-- definitions in the programs of both.
 pub record SolveAlike {F : Type 0} (world other : World F) (statements : List (Stmt F)) : Type 0 where
   pub solvers : other.solvers ≡ world.solvers
   pub models : DefineAlike world.program.statements.items other.program.statements.items (flat_map models_solved statements)
 
--- A run ends where another run with `count` answers ends: its state has all of the other's, and
--- other names are unchanged; its remaining answers are the other's, followed by these.
+-- A run `other`, which began in `state`, ends like the run `course`. Its last state is `state`
+-- overlaid with that of `course`; it has used as many answers; and its remaining answers are those
+-- of `course`, followed by `following`. The used and remaining answers of `course` are `count` in
+-- all.
 pub record EndsAlike (state : State) (following : List (Answer Number)) (count : ℕ) (course other : Course) : Type 0 where
   pub ends : other.state ≡ overlaid state course.state
   pub left : other.left ≡ course.left ++ following

@@ -1,4 +1,5 @@
--- A program that continues where a saved one ended (GAMS User's Guide, "Save and Restart").
+-- A program that consists of the statements of a saved one and further statements (GAMS User's
+-- Guide, "Save and Restart").
 use Rattle.std.specs.Prelude.{◌≡◌, ◌≤◌, ℕ, nat_lt, Bool, not, List, [], ◌++◌, length, map, flat_map, if◌then◌else◌}
 use Rattle.gq_number.specs.Number.{Number}
 use Rattle.gms_ast.specs.declared.declaration.Decl.{Decl}
@@ -15,23 +16,23 @@ use Rattle.gms_exec.specs.Run.{World}
 use Rattle.gms_run_laws.specs.Names.{Each}
 
 module _ {F : Type 0} where
-  -- the names to which an act gives the type of a variable
+  -- the names that an act declares as variables
   abbrev pub typed_by : Act F → List ℕ
   typed_by (Declare kind items) = if is_variable (content_of kind) then map (λ (item : Decl F). item.named.name) items else []
   typed_by act = []
 
-  -- the names that a program declares are in its table
+  -- each name that the statements of a program declare is in the program's table
   abbrev pub DeclaresItsOwn : Program F → Type 0
   DeclaresItsOwn program = Each (λ n. nat_lt n (length program.names)) (flat_map (λ (s : Stmt F). names_declared s.act) program.statements.items)
 
-  -- statements give no variable of a state a type once more
+  -- no variable of the state is declared as a variable again by these statements
   abbrev pub TypesNone : State → List (Stmt F) → Type 0
   TypesNone state statements = Each (λ n. not (is_variable (symbol_at state n).content)) (flat_map (λ (s : Stmt F). typed_by s.act) statements)
 
 module _ {F : Type 0} (value : F → Number) where
-  -- The program of one world continues that of another. Its table of names is no shorter. Its
-  -- statements are those of the other, which declare names of the other's table, followed by
-  -- others, which type no variable of the other once more. The solvers are the same.
+  -- The program of the world `joint` extends that of `saved`. Its table of names is no shorter. Its
+  -- statements are those of `saved`, which declare names of the saved table, followed by `others`,
+  -- which declare no variable of `saved` again. The solvers are the same.
   pub record ExtendsProgram (saved joint : World F) (others : List (Stmt F)) : Type 0 where
     pub names : length saved.program.names ≤ length joint.program.names
     pub own : DeclaresItsOwn saved.program

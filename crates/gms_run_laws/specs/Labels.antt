@@ -1,4 +1,4 @@
--- Bindings that give each controlled set a label, and lags that go past the ends of their sets
+-- Bindings that give each controlled set a label, and lags that go beyond the ends of their sets
 -- (GAMS User's Guide, "Data Manipulations with Parameters", controlled indices; "Sets as Sequences:
 -- Ordered Sets").
 use Rattle.std.specs.Prelude.{◌≡◌, ◌⊎◌, ℕ, ℤ, true, List, [], ◌∷◌, is_some, Some, None, Ok, All}
@@ -12,18 +12,19 @@ use Rattle.gms_eval.specs.Bindings.{Pairs, label_of}
 use Rattle.gms_eval.specs.Lag.{lagged_label, whole_number}
 use Rattle.gms_eval.specs.Value.{value}
 
--- each of some sets stands for a label
+-- each of these sets has a label in the binding
 abbrev pub OccurForLabels : Pairs → List ℕ → Type 0
 OccurForLabels binding sets = All (λ set. is_some (label_of binding set) ≡ true) sets
 
--- each label of an element is a member of its set
+-- the element has one label for each set, and each label is a member of its set
 abbrev pub AreMembers : State → List ℕ → List ℕ → Type 0
 AreMembers state [] [] = Unit {0}
 AreMembers state (set ∷ sets) (label ∷ element) = (has (members_of state set) (label ∷ []) ≡ true) × AreMembers state sets element
 AreMembers state sets element = ⊥
 
 module _ {F : Type 0} (number_of : F → Number) (limit : ℕ) (state : State) (binding : Pairs) where
-  -- A lag of an amount goes from the label that its set stands for past the ends of the set.
+  -- A lag with this amount goes beyond the end of its set, from the label that the set has in the
+  -- binding, or begins at a label that is none of its members.
   pub record GoesPast (set : ℕ) (op : LagOp) (amount : tree.Tree F) : Type 0 where
     pub label : ℕ
     pub occurs : label_of binding set ≡ Some label
@@ -33,7 +34,8 @@ module _ {F : Type 0} (number_of : F → Number) (limit : ℕ) (state : State) (
     pub whole : whole_number given ≡ Some places
     pub past : lagged_label (members_of state set) op places label ≡ None
 
-  -- some lag among indices goes past the ends of its set
+  -- some lag among the indices goes beyond the end of its set, or begins at a label that is none of
+  -- its members
   abbrev pub SomeGoesPast : tree.Indices F → Type 0
   SomeGoesPast tree.no_index = ⊥
   SomeGoesPast (tree.label label rest) = SomeGoesPast rest

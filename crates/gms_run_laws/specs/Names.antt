@@ -12,7 +12,7 @@ use Rattle.gms_rows.specs.Rows.{Definition}
 use Rattle.gms_exec.specs.Assignment.{target_of}
 use Rattle.gms_exec.specs.Run.{World}
 
--- each of some names passes a test
+-- the test is true of each of these names
 abbrev pub Each : (ℕ → Bool) → List ℕ → Type 0
 Each test [] = Unit {0}
 Each test (n ∷ ns) = (test n ≡ true) × Each test ns
@@ -40,7 +40,7 @@ abbrev mutual
   names_in_tree (tree.one_of parts) = part_names parts
   names_in_tree (tree.guarded operand guards) = names_in_tree operand ++ part_names guards
 
-  -- the names in the parts of a node
+  -- the names in the operands or arguments of a node
   pub part_names : {F : Type 0} → tree.Parts F → List ℕ
   part_names tree.no_part = []
   part_names (tree.part mark part rest) = names_in_tree part ++ part_names rest
@@ -68,8 +68,10 @@ abbrev pub definition_names : {F : Type 0} → Definition F → List ℕ
 definition_names d = d.equation ∷ (index_names d.indices ++ (condition_names d.condition ++ (names_in_tree d.left ++ names_in_tree d.right)))
 
 module _ {F : Type 0} (world : World F) where
-  -- the names on which the state after an act depends: those that an assignment, a solve or a loop
-  -- names, a solve also those in the definitions of its model. What is shown changes no state.
+  -- The names on which the state after an act depends, where each statement of a loop's body is
+  -- replaced by its own names: those in an assignment; the model and the objective of a solve, and
+  -- those in the definitions of the model; those in the control and the body of a loop; none for
+  -- other acts.
   abbrev pub names_step : Act-F F (List ℕ) (List ℕ) → List ℕ
   names_step (Act-F.Assign target condition right_at (Value right)) =
       target.name ∷ (index_names (target_of target).indices ++ (condition_names (option_map tree_of condition) ++ names_in_tree (tree_of right)))
@@ -83,12 +85,13 @@ module _ {F : Type 0} (world : World F) where
   statement_names = fold-Stmt F (List ℕ) (List ℕ) names_step (λ statement. statement.act)
 
 module _ {F : Type 0} where
-  -- the models that an act solves
+  -- the models that an act solves, where each statement of a loop's body is replaced by the models
+  -- that it solves
   abbrev pub solved_step : Act-F F (List ℕ) (List ℕ) → List ℕ
   solved_step (Act-F.Solve model method objective maximize) = model.name ∷ []
   solved_step (Act-F.Loop control body) = flat_map (λ models. models) body.items
   solved_step act = []
 
-  -- the models that a statement solves
+  -- the models that a statement solves, also in the body of a loop
   abbrev pub models_solved : Stmt F → List ℕ
   models_solved = fold-Stmt F (List ℕ) (List ℕ) solved_step (λ statement. statement.act)

@@ -1,5 +1,5 @@
--- The states of a program's run (GAMS User's Guide, "GAMS Programs", "Programming Flow Control
--- Features").
+-- The states that the run of a program may reach (GAMS User's Guide, "GAMS Programs", "Programming
+-- Flow Control Features").
 use Rattle.std.specs.Prelude.{◌≡◌, ℕ, List}
 use Rattle.gq_number.specs.Number.{Number}
 use Rattle.gms_ast.specs.declared.program.Program.{Program}
@@ -10,7 +10,7 @@ use Rattle.gms_check.specs.LeftSides.{IsNestedIn}
 use Rattle.gms_eval.specs.Bindings.{Pairs}
 use Rattle.gms_exec.specs.Run.{Course, World, of_statement}
 
--- A statement of a program, or one in its loops.
+-- A statement is one of the program, or is in the body of a loop of it.
 pub record IsStatementOf {F : Type 0} (program : Program F) (statement : Stmt F) : Type 0 where
   pub before : List (Stmt F)
   pub outer : Stmt F
@@ -18,11 +18,11 @@ pub record IsStatementOf {F : Type 0} (program : Program F) (statement : Stmt F)
   pub depth : ℕ
   pub inside : IsNestedIn depth statement outer
 
--- A state that statements of the program lead to from another, under any labels that sets stand
--- for.
+-- A state results from the state `first` if statements of the program are executed, in any sequence
+-- and under any labels of controlled sets.
 pub data IsReached {F : Type 0} (number_of : F → Number) (limit : ℕ) (world : World F) (first : State) : State → Type 0 where
-  -- the first state
+  -- the state `first` itself
   at_first : IsReached number_of limit world first first
-  -- the state that a statement leads to
+  -- the state after one more statement
   after : {state : State} (statement : Stmt F) (binding : Pairs) (course : Course) → IsStatementOf world.program statement → course.state ≡ state →
       IsReached number_of limit world first state → IsReached number_of limit world first (of_statement number_of limit world statement binding course).state

@@ -46,12 +46,15 @@ ghost use Rattle.lp_core.specs.declared.program.Lp.{Lp};
 use gq_field::ExactField;
 
 /// The labels of a reference of an accepted program, under a binding in which each set that is
-/// controlled at the reference has a label. Each set among its indices has a label, and there are
-/// at most 10 indices. So in every state in which no amount of a lag has a fault it has a tuple,
-/// unless a lag goes past the ends of its set or begins at a label that is none of its members. In
-/// no other case does a reference read 0 because a label is missing. With the labels of an element
-/// of its sets a fold, a loop or a left side gives each of them a label, in addition to those that
-/// have one; if the sets are over one position, these labels are members of them.
+/// controlled at the reference has a label.
+///
+/// Each set among the indices of the reference has a label (`occur`), and there are at most 10
+/// indices (`few`). Take a state in which no amount of a lag has a fault: there the indices have a
+/// tuple, unless a lag goes beyond the end of its set or begins at a label that is no member of
+/// that set (`tuple`). In no other case does a reference read 0 because a label is missing. A fold,
+/// a loop or a left side gives each of its sets a label, that of the element, in addition to the
+/// sets that have one (`element`); if the sets have one dimension, each label is a member of its
+/// set (`members`).
 ///
 /// GAMS User's Guide, "Data Manipulations with Parameters", controlled indices; "Sets as Sequences:
 /// Ordered Sets".
@@ -75,10 +78,11 @@ pub fn label_laws<F: ExactField>()
         All (IsSimple state) sets → has (elements state sets) element ≡ true → AreMembers state sets element }
 {}
 
-/// The last state of a program's run is one that its statements lead to. Take any state that the
-/// statements lead to from one in which a run may begin, from the start or from a save, also inside
-/// a loop. There a set that is an index set before a statement is one over one position; and if the
-/// program is accepted, no assignment of it gives an element twice (GAMS User's Guide, "Data
+/// The last state of a program's run is one that its statements reach (`last`). Take any state that
+/// the statements reach, also inside a loop, from one in which a run may begin: from the start or
+/// from a save. Each set that is an index set before some statement of the program has in that
+/// state members of one label each, in order (`simple`). If the program is accepted, no assignment
+/// of it, executed in that state, assigns to an element twice (`once`; GAMS User's Guide, "Data
 /// Manipulations with Parameters", indexed assignments).
 pub fn run_laws<F: ExactField>()
     ensures last { (world : World F) (state : State) (answers : List (Answer Number)) →
@@ -95,18 +99,20 @@ pub fn run_laws<F: ExactField>()
         IsOnce given }
 {}
 
-/// What each state of a program's run keeps, also inside a loop, of the state in which the
-/// program's own run begins. It declares the same names in the same way. The tuples with data of
-/// each name are in order, have as many labels as the name has positions, and are those whose entry
-/// differs from an absent one. A model has the statuses of before a solve or of after one. The
-/// members of a set that the program does not assign are as they were. The settings are in the
-/// ranges of their options. A run may begin in any state that keeps all this; then each of its
-/// states does (`kept`). The state of the program's own run does (`own`), and so does one that is
-/// resumed from a save. So the last state, which is saved, is such a state.
+/// What each state of a program's run, also inside a loop, has in common with the state in which
+/// the program's own run begins. Each such state declares the same names in the same way. The
+/// tuples with data of each name are in order, have as many labels as the name has positions, and
+/// are those whose entry differs from that of an element without data. A model has the statuses of
+/// before a solve or of after one. The members of a set that the program does not assign are
+/// unchanged. The settings are in the ranges of their options. A run may begin in any state with
+/// all these properties; then each of its states has them (`kept`). The first state of the
+/// program's own run has them (`own`), and so has one that is resumed from a save. So the last
+/// state, which is saved, has them.
 ///
-/// In an accepted program each tuple has at most 10 labels. In the state in which its run begins
-/// each label is a member of the set of its position, which is declared and which no statement of
-/// the program assigns; no model has been solved, and the settings are the first ones.
+/// In an accepted program each tuple has at most 10 labels (`few`). In the state in which its own
+/// run begins each label is a member of the set of its position (`begins`), which is declared and
+/// which no statement of the program assigns (`fixed`); no model has been solved (`unsolved`), and
+/// the settings are the first ones (`settings`).
 ///
 /// GAMS User's Guide, "Save and Restart", "Set Definition", "Variables", "The Option Statement".
 pub fn last_laws<F: ExactField>()
@@ -129,9 +135,9 @@ pub fn last_laws<F: ExactField>()
 
 /// In each state of an accepted program's run, from its start or from a save, both sides of each
 /// definition of a model are linear in the variables: of a product at most one factor, and no
-/// divisor, has variables, and the only folds over an expression with variables are sums. So there
-/// the points that satisfy the model are exactly the feasible points of the linear program that a
-/// solve means (`point_laws` of gms_rows).
+/// divisor, has variables, and the only folds over an expression with variables are sums. So the
+/// points that satisfy the model in that state are exactly the feasible points of the linear
+/// program that a solve means there (`point_laws` of gms_rows).
 ///
 /// GAMS User's Guide, "Equations", "Model and Solve Statements".
 pub fn linear_laws<F: ExactField>()
@@ -142,9 +148,9 @@ pub fn linear_laws<F: ExactField>()
 
 /// The columns and the rows of the linear program of a solve of an accepted program are elements of
 /// the state in which it is solved: of declared variables and equations, each with as many labels
-/// as its name has positions, and no two of them are the same. So what a solve leaves is what
-/// `solve_laws` of gms_exec says, in each state of the program's run, from its start or from a
-/// save, also inside a loop.
+/// as its name has positions, and no two of them are the same. So `solve_laws` of gms_exec holds of
+/// each solve, in each state of the program's run, from its start or from a save, also inside a
+/// loop.
 ///
 /// GAMS User's Guide, "Model and Solve Statements", "Equations".
 pub fn element_laws<F: ExactField>()

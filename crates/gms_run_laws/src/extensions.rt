@@ -1,4 +1,4 @@
-//! What holds of a program that has the statements of another first.
+//! What holds of a program that begins with the statements of another.
 ghost use Rattle.std.specs.Prelude.{List};
 ghost use Rattle.gms_ast.specs.declared.program.Program.{Program};
 ghost use Rattle.gms_ast.specs.declared.program.Stmt.{Stmt};
@@ -9,11 +9,11 @@ ghost use Rattle.gms_run_laws.specs.Extensions.{ExtendsProgram};
 
 use gq_field::ExactField;
 
-/// The statements of an accepted program name only what its first state declares, also in the
-/// definitions of the models that they solve (`names`), and an alias of that state stands for a
-/// declared set (`closed`). If an accepted program has the statements of another first, and further
-/// ones after them, it begins with all that the other begins with (`begins`), and the models that
-/// the other solves have the same definitions in it (`solves`).
+/// The statements of an accepted program depend only on names that the first state of its run
+/// declares, also in the definitions of the models that they solve (`names`), and the set of an
+/// alias of that state is declared (`closed`). If an accepted program begins with the statements of
+/// another, its first state has all that the other's first state declares (`begins`), and the
+/// models that the other solves have the same definitions in both programs (`solves`).
 ///
 /// A restarted run rests on these laws (GAMS User's Guide, "Save and Restart").
 pub fn extension_laws<F: ExactField>()

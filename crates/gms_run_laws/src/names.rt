@@ -1,4 +1,4 @@
-//! What the runs of the same statements in two states and two worlds have in common.
+//! What runs of the same statements in two states and two worlds have in common.
 ghost use Rattle.std.specs.Prelude.{◌≡◌, ◌++◌, ℕ, Bool, List, length, None};
 ghost use Rattle.gq_number.specs.Number.{Number};
 ghost use Rattle.gms_ast.specs.declared.program.Stmt.{Stmt};
@@ -15,9 +15,9 @@ ghost use Rattle.lp_core.specs.declared.answer.Answer.{Answer};
 
 use gq_field::ExactField;
 
-/// The meaning of an expression depends on the names in it alone. In two states in which each of
-/// them is the same it has the same value under every binding, or the same fault; and the same
-/// form, if it is linear in the variables.
+/// The meaning of an expression depends only on the names in it. In two states in which each of
+/// these names has the same symbol, the expression has the same value under every binding, or the
+/// same fault (`value`); and the same linear form in the variables, if it has one (`form`).
 ///
 /// GAMS User's Guide, "Data Manipulations with Parameters", "Equations".
 pub fn value_laws<F: ExactField>()
@@ -27,12 +27,14 @@ pub fn value_laws<F: ExactField>()
         AgreeOn test one other → Each test (names_in_tree e) → affine F.value F.limit other at binding e ≡ affine F.value F.limit one at binding e }
 {}
 
-/// Statements that name only what a state declares do the same in each state that has all of it, if
-/// the state is closed (an alias stands for a declared set), and if the solvers and the definitions
-/// of the models that they solve are the same; they change no other name. If both runs of them end,
-/// the second ends in the state that it began with, overlaid with the state in which the first
-/// ends; it took as many answers; and its remaining answers are those of the first run, followed by
-/// the answers that it had in addition.
+/// Two runs of the same statements, one from the state `first` and one from `state`. The statements
+/// depend only on names that `first` declares, `state` has all that `first` has, and the set of
+/// each alias of `first` is declared; the solvers, and the definitions of the models that are
+/// solved, are the same in both worlds. Then the statements do the same in both runs, and change no
+/// name of `state` that `first` does not declare. If neither run halts, the run that began in
+/// `state` ends in `state` overlaid with the last state of the run that began in `first`. It used
+/// as many answers as that run, and its remaining answers are those of that run, followed by
+/// `following`, which only it had.
 ///
 /// GAMS User's Guide, "Save and Restart", "GAMS Programs".
 pub fn frame_laws<F: ExactField>()

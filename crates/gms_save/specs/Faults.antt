@@ -9,24 +9,24 @@ use Rattle.gms_save_text.specs.declared.fault.ReadFault.TheVariants as read
 use Rattle.gms_parse.specs.declared.fault.SourceFaultOrMemory.{SourceFaultOrMemory}
 use Rattle.gms_parse.specs.declared.fault.SourceFaultOrMemory.TheVariants as parsed
 
--- the number of a fault
+-- the number of a fault of a save
 abbrev pub save_fault_code : SaveFault → ℕ
 save_fault_code SaveShape = 41
 save_fault_code SaveTooLong = 42
 save_fault_code SaveSolver = 43
 
--- the name of a fault
+-- the name of a fault of a save
 abbrev pub fault_name : SaveFault → List ℕ
 fault_name SaveShape = codes "SaveShape"
 fault_name SaveTooLong = codes "SaveTooLong"
 fault_name SaveSolver = codes "SaveSolver"
 
--- what could not be read is no save, unless memory ran out
+-- the fault of restoring a text that could not be read: SaveShape, or out of memory
 abbrev pub fault_of_reading : ReadFault → SaveFaultOrMemory
 fault_of_reading read.Memory = Memory
 fault_of_reading read.Shape = Fault SaveShape
 
--- a text that is no program has no save, unless memory ran out
+-- the fault of restoring a save whose source is no program: SaveShape, or out of memory
 abbrev pub fault_of_source : SourceFaultOrMemory → SaveFaultOrMemory
 fault_of_source parsed.Memory = Memory
 fault_of_source (parsed.Fault fault) = Fault SaveShape

@@ -25,55 +25,59 @@ use Rattle.gms_save.specs.declared.fault.SaveFault.TheVariants.{SaveTooLong, Sav
 use Rattle.gms_save.specs.declared.fault.SaveFaultOrMemory.{SaveFaultOrMemory}
 use Rattle.gms_save.specs.declared.fault.SaveFaultOrMemory.TheVariants.{Memory, Fault}
 
--- how many bytes a save has at most
+-- the greatest number of bytes of a save that can be restored
 abbrev pub most_save_bytes : ℕ
 most_save_bytes = 67108864
 
 -- ---- the names of solvers
 
--- the names that an option gives to `lp`
+-- the solver's name in a setting of the option `lp`; none in a setting of another option
 abbrev pub option_solvers : Word × Setting Frac → List (List ℕ)
 option_solvers (word, setting.Number at value) = []
 option_solvers (word, setting.Name name) = if str_eq_ignore_ascii_case word.text (codes "lp") then name.text ∷ [] else []
 
--- the names of solvers that an act chooses; a loop those that its body chooses
+-- the names of solvers to which an act sets the option `lp`, where each statement of a loop's body
+-- is replaced by its own such names
 abbrev pub solvers_step : Act-F Frac (List (List ℕ)) (List (List ℕ)) → List (List ℕ)
 solvers_step (Act-F.Options settings) = flat_map option_solvers settings
 solvers_step (Act-F.Loop control body) = flat_map (λ names. names) body.items
 solvers_step act = []
 
--- the names of solvers that a statement chooses
+-- the names of solvers to which a statement sets `lp`, also in the body of a loop
 abbrev pub solvers_in : Stmt Frac → List (List ℕ)
 solvers_in = fold-Stmt Frac (List (List ℕ)) (List (List ℕ)) solvers_step (λ statement. statement.act)
 
--- the names of solvers that a program chooses: with solvers of these names no choice is an error
+-- the names of solvers to which the statements of a program set the option `lp`
 abbrev pub solvers_chosen : Program Frac → List (List ℕ)
 solvers_chosen program = flat_map solvers_in program.statements.items
 
--- the place of a saved solver among solvers of these names: the first of its name, letter case
--- ignored. The word `none` says that there was no solver; it is accepted only where there is none
+-- the index of a save's solver in the list of solvers: that of the first with its name, letter case
+-- ignored; None if there is none. A save has the name `none` if there was no solver; it is
+-- accepted, as index 0, only if the list is empty
 abbrev pub place_of_solver : List (List ℕ) → List ℕ → Option ℕ
 place_of_solver solvers solver =
     if bytes_eq solver (codes "none") then (if length solvers == 0 then Some 0 else None) else position (λ name. str_eq_ignore_ascii_case name solver) solvers
 
 -- ---- saves
 
--- a state is a saved one of a program without errors, for solvers of the names that it chooses
+-- The program has no error with solvers of the names that it chooses, and `state` is a state of it
+-- that can be saved, with a solver of this name.
 pub record IsSavedBy (program : Program Frac) (state : State) (solver : List ℕ) : Type 0 where
   pub no_error : compile_errors frac_value program (solvers_chosen program) ≡ []
   pub is_saved : IsSavedOf frac_limit (length program.labels) (declared_state program) (loaded frac_value program) (is_among (dynamic_sets program)) state solver
 
--- Bytes are the save of a state of a program, with a solver of this name and the program's source.
+-- The bytes are the save of a state of a program, with the source of the program and a solver of
+-- this name.
 pub record IsSaveOf (bytes source : List ℕ) (program : Program Frac) (state : State) (solver : List ℕ) : Type 0 where
   pub is_program : IsProgram frac_limit source frac_value program
   pub is_saved : IsSavedBy program state solver
   pub text : bytes ≡ saved_text source program.names state solver
 
--- bytes are no save: no state of any program has this text
+-- the bytes are no save: not that of any state of any program
 abbrev pub IsNoSave : List ℕ → Type 0
 IsNoSave bytes = (source : List ℕ) (program : Program Frac) (state : State) (solver : List ℕ) → ¬ (IsSaveOf bytes source program state solver)
 
--- a save whose solver is none of these
+-- the bytes are a save whose solver is none of these
 pub record LacksSolver (solvers : List (List ℕ)) (bytes : List ℕ) : Type 0 where
   pub source : List ℕ
   pub program : Program Frac
@@ -82,14 +86,15 @@ pub record LacksSolver (solvers : List (List ℕ)) (bytes : List ℕ) : Type 0 w
   pub is_save : IsSaveOf bytes source program state solver
   pub lacks : place_of_solver solvers solver ≡ None
 
--- What was restored is what the bytes are the save of, with the place of the solver in the
--- settings.
+-- The bytes are the save of the source, program and state in `saved`, and the settings of that
+-- state have the index of the save's solver among `solvers`.
 pub record IsRestored (solvers : List (List ℕ)) (bytes : List ℕ) (saved : Saved) : Type 0 where
   pub solver : List ℕ
   pub is_save : IsSaveOf bytes saved.source.items saved.program saved.store solver
   pub placed : place_of_solver solvers solver ≡ Some saved.store.settings.solver
 
--- the answer of restoring bytes, with solvers of these names
+-- The result of restoring these bytes, with solvers of these names, is right: what was saved, or a
+-- fault whose cause holds. Out of memory makes no claim.
 abbrev pub Restores : List (List ℕ) → List ℕ → Result Saved SaveFaultOrMemory → Type 0
 Restores solvers bytes (Ok saved) = (length bytes ≤ most_save_bytes) × IsRestored solvers bytes saved
 Restores solvers bytes (Err Memory) = Unit {0}
@@ -97,20 +102,20 @@ Restores solvers bytes (Err (Fault SaveTooLong)) = most_save_bytes < length byte
 Restores solvers bytes (Err (Fault SaveShape)) = (length bytes ≤ most_save_bytes) × IsNoSave bytes
 Restores solvers bytes (Err (Fault SaveSolver)) = (length bytes ≤ most_save_bytes) × LacksSolver solvers bytes
 
--- a state with the solver at this place
+-- the state whose settings have this index of the solver
 abbrev pub with_solver : State → ℕ → State
 with_solver state place = record { symbols = state.symbols; settings = record state.settings { solver = place } }
 
--- The restored state is this state with this source, its program has the same view as this one, and
--- the settings have the place of this solver.
+-- What was restored has this source, a program with the same view as this one, and this state,
+-- except that the settings have the index of this solver.
 pub record IsBack (solvers : List (List ℕ)) (saved : Saved) (source : List ℕ) (program : Program Frac) (state : State) (solver : List ℕ) : Type 0 where
   pub source_is : saved.source.items ≡ source
   pub program_is : program_view frac_value saved.program ≡ program_view frac_value program
   pub state_is : saved.store ≡ with_solver state saved.store.settings.solver
   pub placed : place_of_solver solvers solver ≡ Some saved.store.settings.solver
 
--- the answer of restoring the save of this state: the state itself, unless the save is too long or
--- none of the solvers has the name; out of memory makes no claim
+-- the result of restoring the save of this state is right: the state, unless the save is too long
+-- or none of the solvers has the name; out of memory makes no claim
 abbrev pub AnswersSave : List (List ℕ) → List ℕ → List ℕ → Program Frac → State → List ℕ → Result Saved SaveFaultOrMemory → Type 0
 AnswersSave solvers bytes source program state solver (Ok saved) = IsBack solvers saved source program state solver
 AnswersSave solvers bytes source program state solver (Err Memory) = Unit {0}
@@ -118,8 +123,8 @@ AnswersSave solvers bytes source program state solver (Err (Fault SaveTooLong)) 
 AnswersSave solvers bytes source program state solver (Err (Fault SaveShape)) = ⊥
 AnswersSave solvers bytes source program state solver (Err (Fault SaveSolver)) = place_of_solver solvers solver ≡ None
 
--- Of any state of any program of any source, with any solver's name, whose save the bytes are: that
--- is the answer.
+-- whichever state of whichever program these bytes are the save of, the result of restoring them is
+-- right for it
 abbrev pub GivesBack : List (List ℕ) → List ℕ → Result Saved SaveFaultOrMemory → Type 0
 GivesBack solvers bytes result =
     (source : List ℕ) (program : Program Frac) (state : State) (solver : List ℕ) → IsSaveOf bytes source program state solver → AnswersSave solvers bytes source program state solver result

@@ -17,13 +17,13 @@ pub enum SaveFault {
     /// Bytes that are not a save.
     #[error("not a save")]
     SaveShape,
-    /// The save names a solver that does not exist here.
+    /// The save names a solver that is not one of the run's.
     #[error("the saved solver does not exist here")]
     SaveSolver,
 }
 
 impl SaveFault {
-    /// The number of the fault in a listing.
+    /// The number of this fault in a listing.
     pub fn code(self) -> u8
         ensures { result ≡ save_fault_code self }
     {
@@ -34,7 +34,7 @@ impl SaveFault {
         }
     }
 
-    /// The name of the fault in a listing.
+    /// The name of this fault in a listing.
     pub fn name(self) -> &'static str
         ensures { result.now ≡ fault_name self }
     {
@@ -46,7 +46,7 @@ impl SaveFault {
     }
 }
 
-/// A fault of a save, or out of memory.
+/// Why a save was not restored: a fault of the save, or out of memory.
 #[derive(Clone, Copy, Debug, Error)]
 pub enum SaveFaultOrMemory {
     /// Out of memory.

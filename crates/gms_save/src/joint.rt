@@ -12,13 +12,13 @@ use gq_frac::Frac;
 use std::alloc::{AllocError, Global};
 use std::mem;
 
-/// The errors of a joint program, whose new file begins at a line, with solvers of these names:
-/// those of a check, and `Restart` of the new file among them, at most one a statement, the first
-/// by place and then by number.
+/// The errors of a joint program, with solvers of these names, in the order of its statements.
+/// `from` is the line at which the new file begins. Each statement has at most one error: of those
+/// that a check finds and of the errors `Restart` the first, by place and then by number.
 ///
-/// The place of `Restart` is a saved variable that is given a type, or a saved set that is assigned
-/// where the saved source does not assign it; an alias counts as its set (GAMS User's Guide, "Save
-/// and Restart").
+/// `Restart` is at a saved variable that the new file declares as a variable again, or at a saved
+/// set that the new file assigns and the saved source does not; an alias counts as its set (GAMS
+/// User's Guide, "Save and Restart").
 pub fn joint_errors(
     alloc: Global,
     joint: &Program<Frac>,
@@ -34,9 +34,10 @@ pub fn joint_errors(
     found_errors(alloc, &each)
 }
 
-/// Makes a saved state the one from which a restarted run resumes: it also has what the joint
-/// program declares in addition, with its data (GAMS User's Guide, "Save and Restart"). The saved
-/// state is moved, and not copied. If memory runs out it is unchanged.
+/// Makes the saved state in `store` the one from which a restarted run resumes: the state gets the
+/// names that only the joint program declares, with their data (GAMS User's Guide, "Save and
+/// Restart"). `from` is the line at which the new file begins. The saved state is moved, and not
+/// copied. If memory runs out, the state is unchanged.
 pub fn resume(
     alloc: Global,
     store: &mut Store<Frac>,

@@ -13,7 +13,7 @@ ghost use Rattle.gms_save.specs.JointErrors.{joint_errors, resumed};
 ghost use Rattle.gms_save.specs.Saves.{IsSavedBy, solvers_chosen};
 
 /// Two programs with equal views (names, labels and trees of statements) have the same errors, load
-/// the same state, and have the same saved states, wherever their parts are in memory. A source has
+/// the same state, and have the same saved states, however they are stored in memory. A source has
 /// one view of a program, so a property of one program of a source is one of each (GAMS User's
 /// Guide, "GAMS Programs", "Save and Restart").
 pub fn view_laws()

@@ -15,16 +15,17 @@ use gms_store::{Store, SymbolKind};
 use gq_frac::Frac;
 use std::alloc::{AllocError, Global};
 
-/// What the saved source declares and assigns, with which the statements of the new file are
-/// checked.
+/// What is known of the saved source, to check that the new file declares no saved variable as a
+/// variable again, and assigns no saved set that the saved source does not assign.
 pub(crate) struct RestartCheck {
-    /// The first line of the new file.
+    /// The line of the joint source at which the new file begins.
     pub from: u32,
-    /// What the saved source declares.
+    /// The state after the declarations of the saved source alone.
     pub saved: Store<Frac>,
-    /// What the joint program declares.
+    /// The state after the declarations of the joint program: the saved source, then the new file.
     pub declared: Store<Frac>,
-    /// The sets that the saved source assigns.
+    /// The sets that the saved source assigns, as marks by the numbers of names; an alias counts as
+    /// its set.
     pub assigned: Marks,
 }
 
@@ -79,7 +80,8 @@ fn assigned_before(
 }
 
 impl RestartCheck {
-    /// The check of a joint program whose new file begins at a line.
+    /// The check of the statements of the new file of a joint program; the new file begins at the
+    /// line `from`.
     pub fn new(alloc: Global, joint: &Program<Frac>, from: u32) -> Result<RestartCheck, AllocError>
         ensures { IfOk result (IsCheckOf from joint.now) }
     {
@@ -94,8 +96,11 @@ impl RestartCheck {
         })
     }
 
-    /// Puts the first `Restart` of each of some statements in the place of its error, where it
-    /// comes first.
+    /// Puts the errors `Restart` of statements into `each`, which has for each statement its error
+    /// so far, or `None` if it has none. Such an error is at a saved variable that the statement
+    /// declares again, or at a saved set that it assigns and the saved source does not. The first
+    /// `Restart` of a statement replaces the error if it comes first, by place and then by number,
+    /// or if there is no error so far. Other errors stay.
     pub fn add_errors(&self, statements: &[Stmt<Frac>], each: &mut [Option<CompileError>])
         requires { length each.old ≡ length statements.now }
         ensures { each.new ≡ each_sooner (error_by self.now) each.old statements.now }

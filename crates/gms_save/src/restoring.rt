@@ -26,14 +26,14 @@ use gms_store::Store;
 use gq_frac::Frac;
 use std::alloc::{AllocError, Global};
 
-/// How many bytes a save has at most.
+/// The greatest number of bytes of a save that `restore` accepts.
 pub const MOST_BYTES: usize = 67_108_864;
 
-/// The save of a state of a program, with the program's source, and with the name of the solver in
-/// place of its number (GAMS User's Guide, "Save and Restart"): a text that a person can read, and
-/// exactly one for each state.
+/// The save of the state `store` of a program, with the program's source `source`. The name
+/// `solver` is in the save in place of the index of the solver in the settings (GAMS User's Guide,
+/// "Save and Restart"). A save is a text that a person can read, and has one form for each state.
 ///
-/// `AllocError` means that memory ran out. A save of over 67,108,864 bytes is made, and `restore`
+/// `AllocError` means that memory ran out. A save of over 67,108,864 bytes is made, but `restore`
 /// does not accept it.
 pub fn save(
     alloc: Global,
@@ -47,21 +47,22 @@ pub fn save(
     text_of(alloc, source, &program.names, store, solver.as_bytes())
 }
 
-/// The contents of a save: the source, its program, and the state after it, with the solver's place
-/// among solvers of these names (GAMS User's Guide, "Save and Restart").
+/// The contents of a save: the source, its program, and the state after it, with the index of the
+/// save's solver in the list `solvers` of names (GAMS User's Guide, "Save and Restart").
 ///
-/// `SaveTooLong` comes exactly where there are over 67,108,864 bytes. Otherwise `SaveShape` comes
-/// only where the bytes are no save: a save has the one text of a state that the program of its
-/// source can have, and that program has no error, except perhaps in its choice of a solver.
-/// Otherwise `SaveSolver` comes only where the save says that there was no solver and the list is
-/// not empty, or where the list lacks its solver. `Memory` means that memory ran out. Otherwise the
-/// bytes are the save of what is restored.
+/// `SaveTooLong` comes only if there are over 67,108,864 bytes, and then only `Memory` may come in
+/// its place. The other faults come only up to that length. `SaveShape` comes only if the bytes are
+/// no save: a save has the one text of a state that the program of its source can have, and that
+/// program has no error, except perhaps in its choice of a solver. `SaveSolver` comes only if the
+/// save has no solver and the list is not empty, or if the list lacks the solver of the save.
+/// `Memory` means that memory ran out. If no fault comes, the bytes are the save of what is
+/// restored (`answer`).
 ///
 /// Take any state of any program of any source whose save the bytes are. It is restored, with that
 /// source and with the view of that program, unless memory runs out, the bytes are too long or no
-/// solver has the name. So no text is the save of two states that differ in more than the place of
-/// the solver; what `save` wrote is restored as it was, except for that place; and `SaveShape`
-/// comes only where no state has these bytes. There are fewer than 2^32 solvers.
+/// solver has the name (`back`). So no text is the save of two states that differ in more than the
+/// index of the solver; what `save` wrote is restored as it was, except for that index; and
+/// `SaveShape` comes only if no state has these bytes. There are fewer than 2^32 solvers.
 pub fn restore(alloc: Global, bytes: &[u8], solvers: &[String]) -> Result<Saved, SaveFaultOrMemory>
     requires { length solvers.now < 2 ^ 32 }
     ensures answer { Restores (map string_bytes solvers.now) bytes.now result }

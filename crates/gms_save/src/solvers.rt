@@ -1,4 +1,4 @@
-//! The solvers that a save names.
+//! The solvers that a program chooses and a save names.
 ghost use Rattle.std.specs.Prelude.{◌≡◌, ◌++◌, ◌<◌, ◌^◌, ◌==◌, codes, flat_map, length, map, position, string_bytes, Some, None, IfOk, OnOk, if◌then◌else◌};
 ghost use Rattle.std.specs.Str.{str_eq_ignore_ascii_case};
 ghost use Rattle.gms_save.specs.Saves.{option_solvers, place_of_solver, solvers_chosen, solvers_in};
@@ -7,7 +7,7 @@ use gms_ast::{Act, Program, Sequence, Setting, Stmt, Word};
 use gq_frac::Frac;
 use std::alloc::{AllocError, Global};
 
-/// The names of solvers that a program chooses by its options, in order.
+/// The names of solvers to which the option statements of a program set `lp`, in order.
 pub(crate) fn solvers_chosen(
     alloc: Global,
     program: &Program<Frac>,
@@ -91,8 +91,9 @@ fn is_for_solver(word: &Word) -> bool
     word.text.as_slice().eq_ignore_ascii_case(b"lp".as_slice())
 }
 
-/// The place of a saved solver among solvers of these names: the first of its name, letter case
-/// ignored. The word `none` says that there was no solver; it is accepted only where there is none.
+/// The index of a save's solver in the list of solvers: that of the first with its name, letter
+/// case ignored; `None` if there is none. A save has the name `none` if there was no solver; it is
+/// accepted, as index 0, only if the list is empty.
 pub(crate) fn place_of_solver(solvers: &[String], solver: &[u8]) -> Option<u32>
     requires { length solvers.now < 2 ^ 32 }
     ensures { result ≡ place_of_solver (map string_bytes solvers.now) solver.now }

@@ -1,5 +1,5 @@
--- Which states are saved ones of what a program declares (GAMS User's Guide, "Save and Restart",
--- "Set Definition", "Variables", "The Option Statement"). These checks of a saved state are this
+-- Which states are saved states of a program (GAMS User's Guide, "Save and Restart", "Set
+-- Definition", "Variables", "The Option Statement"). These checks of a saved state are this
 -- project's own rule.
 use Rattle.std.specs.Prelude.{◌≡◌, ℕ, ◌≤◌, Bool, true, false, ◌&&◌, ◌||◌, ◌==◌, nat_lt, nat_le, List, [], ◌∷◌, length, map, Option, Some, None, All}
 use Rattle.std.specs.List.{list_all, list_any}
@@ -13,7 +13,7 @@ use Rattle.gms_store.specs.State.{Content, set_of, parameter_of, variable_of, eq
 
 -- ---- what is declared
 
--- a content without data
+-- the content without data; a model with 0 as both statuses
 abbrev pub emptied : Content → Content
 emptied (set_of members) = set_of []
 emptied (parameter_of entries) = parameter_of finite.empty
@@ -22,20 +22,21 @@ emptied (equation_of entries) = equation_of finite.empty
 emptied (model_with model solver) = model_with 0 0
 emptied content = content
 
--- the symbols of a state without data: what each name is declared as, the sets of its positions,
--- the types of variables and the bases of aliases
+-- the symbols of a state without data: the kind of each name, the sets of its positions, the types
+-- of variables and the sets of aliases
 abbrev pub declared_symbols : State → List Symbol
 declared_symbols state = map (λ (symbol : Symbol). with_content symbol (emptied symbol.content)) state.symbols
 
 -- ---- tuples
 
--- whether a label fits a position: it is a member of the position's set, if it has one
+-- whether a label may occur at a position: it is a member of the position's set; a position without
+-- a set (None) admits any label
 abbrev pub fits_position : State → Option ℕ → ℕ → Bool
 fits_position state None label = true
 fits_position state (Some set) label = has (members_of state set) (label ∷ [])
 
--- whether the labels of a tuple are below `labels`, and each fits its position; positions and
--- labels are equally many
+-- whether a tuple is in a domain: it has as many labels as the domain has positions, each number of
+-- a label is below `labels`, and each label may occur at its position
 abbrev pub fits_domain : ℕ → State → List (Option ℕ) → List ℕ → Bool
 fits_domain labels state [] [] = true
 fits_domain labels state (set ∷ domain) (label ∷ tuple) = nat_lt label labels && (fits_position state set label && fits_domain labels state domain tuple)
@@ -43,11 +44,12 @@ fits_domain labels state domain tuple = false
 
 -- ---- statuses, settings, solvers
 
--- whether two statuses are those of a model before a solve, or after one
+-- whether the two numbers are the statuses of a model and its solver after some end of a solve, or
+-- before the first solve
 abbrev pub are_statuses : ℕ → ℕ → Bool
 are_statuses model solver = list_any (λ status. model_number status == model && solver_number status == solver) all_statuses
 
--- whether settings are in the ranges that their options allow
+-- whether the settings are in the ranges of their options
 abbrev pub are_in_range : Settings → Bool
 are_in_range settings =
     nat_le settings.limrow 2147483647 && (nat_le settings.limcol 2147483647 && (nat_le settings.iterlim 2147483647 && nat_le settings.decimals 8))
@@ -56,16 +58,18 @@ are_in_range settings =
 abbrev pub is_solver_byte : ℕ → Bool
 is_solver_byte byte = is_ascii_alphanumeric byte || byte == 95
 
--- whether a text is the name of a solver, or `none`: a letter, and at most 62 letters, digits and
--- `_` after it
+-- whether a text has the form of the solver's name in a save, which the word `none` has too: a
+-- letter, followed by at most 62 letters, digits and `_`
 abbrev pub is_solver_name : List ℕ → Bool
 is_solver_name [] = false
 is_solver_name (first ∷ rest) = is_ascii_alphabetic first && (list_all is_solver_byte rest && nat_le (length rest) 62)
 
 -- ---- names
 
--- The tuples with data of a name are in order and in its domain; their numbers fit; they are those
--- whose entry differs from an absent one; and a model has statuses.
+-- The data of a symbol are valid in a state with `labels` labels: the tuples are in order and in
+-- the symbol's domain; the numbers fit under the limit; the tuples are those whose entry differs
+-- from that of an element without data; and a model has the two statuses of some end of a solve, or
+-- those before its first solve.
 pub record IsGivenWell (limit labels : ℕ) (state : State) (symbol : Symbol) : Type 0 where
   pub ordered : IsOrdered (given_in symbol.content)
   -- a tuple has at most 10 labels
@@ -75,10 +79,11 @@ pub record IsGivenWell (limit labels : ℕ) (state : State) (symbol : Symbol) : 
   pub differs : (t : List ℕ) → has (given_in symbol.content) t ≡ differs_in symbol.content t
   pub statuses : are_statuses (statuses_in symbol.content).0 (statuses_in symbol.content).1 ≡ true
 
--- A state is a saved one of a program with these declarations, `labels` labels and these assigned
--- sets, whose data give the other sets their members. It declares the same, each name has only
--- valid data, the members of a set that is not assigned are those of the data, and the settings and
--- the name of the solver are possible ones.
+-- A state is a saved one of a program: `declared` is the state of the program's declarations,
+-- `loaded` the state with the data of these, `labels` the number of the program's labels, and
+-- `assigned` tells which sets it assigns. The saved state declares what `declared` does, and the
+-- data of each name are valid; a set that the program does not assign has the members of `loaded`;
+-- the settings are in their ranges; and `solver` has the form of a solver's name.
 pub record IsSavedOf (limit labels : ℕ) (declared loaded : State) (assigned : ℕ → Bool) (state : State) (solver : List ℕ) : Type 0 where
   pub declares : declared_symbols state ≡ declared_symbols declared
   pub given : (name : ℕ) → IsGivenWell limit labels state (symbol_at state name)

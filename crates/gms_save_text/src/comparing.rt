@@ -1,5 +1,5 @@
-//! Whether bytes are the text of a saved state: it is written piece by piece and compared with
-//! them, and is never whole in memory.
+//! Whether bytes are the text of a save: the text is written piece by piece and compared with them,
+//! and is never whole in memory.
 ghost use Rattle.std.specs.Prelude.{◌≡◌, ◌↔◌, ◌++◌, ℕ, List, IsTrue, IfOk, OnOk};
 ghost use Rattle.gms_store.specs.State.{symbol_at};
 ghost use Rattle.gms_save_text.specs.SavedState.{entry_line, entry_lines, head_line, part, parts_from, saved_text, settings_line, source_text};
@@ -16,13 +16,14 @@ use std::alloc::{AllocError, Global};
 /// A text of which the first pieces have been compared.
 #[derive(Drop)]
 struct Comparison<'t> {
-    /// The rest of it after them, if it begins with them.
+    /// The bytes that remain after the pieces so far; `None` if the bytes do not begin with these
+    /// pieces.
     left: Option<&'t [u8]>,
-    /// The piece that is compared.
+    /// The piece that is written and compared next.
     piece: Vec<u8>,
 }
 
-/// The rest of a text after a piece, if it begins with the piece.
+/// The bytes after a piece; `None` if they do not begin with it.
 fn past<'t>(left: Option<&'t [u8]>, piece: &[u8]) -> Option<&'t [u8]>
     ensures { IsPast piece.now left.entry result }
 {
@@ -160,8 +161,8 @@ impl<'t> Comparison<'t> {
     }
 }
 
-/// Whether bytes are the text of a state with a source and these names, where its solver has this
-/// name.
+/// Whether `bytes` are the text of the save of the state `store`, for a program with this source
+/// and these names; `solver` is the name of the chosen solver.
 pub fn is_text_of<F: ExactField>(
     alloc: Global,
     bytes: &[u8],

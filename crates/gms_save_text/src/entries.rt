@@ -13,14 +13,14 @@ use gms_store::{Store, SymbolKind};
 use gq_field::ExactField;
 use std::alloc::Global;
 
-/// A name of which entries are read: its number, its kind, and how many positions it has.
+/// A name whose entries are read from the text of a save.
 #[derive(Clone, Copy)]
 pub(crate) struct Named {
-    /// Its number.
+    /// The number of the name in the program, from 0.
     pub name: u32,
-    /// What it is declared as.
+    /// The kind that the program declares the name as.
     pub kind: SymbolKind,
-    /// How many positions it has.
+    /// How many positions the name has, that is, how many labels each of its tuples has.
     pub arity: usize,
 }
 
@@ -56,8 +56,8 @@ fn read_entry<'t, F: ExactField>(
     }
 }
 
-/// Writes the entries of the first `count` lines of a text into a state, and answers the text after
-/// them.
+/// Writes the entries in the first `count` lines of a text to a name in a state. The result is the
+/// text after these lines. `Shape` comes only if the lines are not those of readable entries.
 pub(crate) fn read_entries<'t, F: ExactField>(
     alloc: Global,
     store: &mut Store<F>,

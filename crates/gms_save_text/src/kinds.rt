@@ -4,7 +4,7 @@ ghost use Rattle.gms_save_text.specs.Reading.{kind_word};
 
 use gms_store::SymbolKind;
 
-/// The word before a name of this kind, with a blank after it.
+/// The word before a name of this kind in a save, with a blank after it.
 pub(crate) fn kind_word(kind: SymbolKind) -> &'static [u8]
     ensures { result.now ≡ kind_word kind }
 {

@@ -1,4 +1,4 @@
-//! Reading the parts of names into a state.
+//! Reading the lines of names in a save into a state.
 ghost use Rattle.std.specs.Prelude.{◌≡◌, ◌++◌, ◌<◌, ◌≤◌, ◌^◌, ℕ, List, length, codes, decimal, OnOk};
 ghost use Rattle.gms_store.specs.State.{Content, State, model_with, symbol_at, with_content, after_statuses};
 ghost use Rattle.gms_store.specs.Declarations.{put_at};
@@ -87,8 +87,9 @@ fn read_part<'t, F: ExactField>(
     }
 }
 
-/// Writes the data of all names, with whose parts a text begins, into a state without data, and
-/// answers the text after them.
+/// Writes the data of all names, with whose lines the text begins, into a state without data. The
+/// result is the text after these lines. `Shape` comes only if the text does not begin with the
+/// lines of readable data.
 pub(crate) fn read_parts<'t, F: ExactField>(
     alloc: Global,
     store: &mut Store<F>,

@@ -12,7 +12,7 @@ use gq_field::ExactField;
 use gq_text::{read_exact, read_whole};
 use std::alloc::Global;
 
-/// The text after a prefix.
+/// The text after `prefix`. `Shape` comes only if the text does not begin with it.
 pub(crate) fn strip<'t>(text: &'t [u8], prefix: &[u8]) -> Result<&'t [u8], ReadFault>
     ensures { (rest : List ℕ) → text.now ≡ prefix.now ++ rest → Finds result (λ r. r.now ≡ rest) }
 {
@@ -22,7 +22,8 @@ pub(crate) fn strip<'t>(text: &'t [u8], prefix: &[u8]) -> Result<&'t [u8], ReadF
     }
 }
 
-/// The text before the first of these bytes, and the text after it.
+/// The text before the first occurrence of `byte`, and the text after it. `Shape` comes only if
+/// there is none.
 pub(crate) fn cut(text: &[u8], byte: u8) -> Result<(&[u8], &[u8]), ReadFault>
     ensures { (prefix rest : List ℕ) → HasNone byte prefix → text.now ≡ prefix ++ byte ∷ rest →
         Finds result (λ p. (p.0.now ≡ prefix) × (p.1.now ≡ rest)) }
@@ -42,7 +43,8 @@ fn place_of(text: &[u8], byte: u8) -> usize
     text.iter().take_while(|other| **other != byte).count()
 }
 
-/// The whole number whose digits come before a byte, and the text after that.
+/// The number below 2^128 whose decimal digits come before `byte`, and the text after that. `Shape`
+/// comes only if the text does not begin so.
 pub(crate) fn whole_before(text: &[u8], byte: u8) -> Result<(u128, &[u8]), ReadFault>
     requires { byte < 48 }
     ensures { (n : ℕ) (rest : List ℕ) → n < 2 ^ 128 → text.now ≡ decimal n ++ byte ∷ rest →
@@ -55,8 +57,9 @@ pub(crate) fn whole_before(text: &[u8], byte: u8) -> Result<(u128, &[u8]), ReadF
     }
 }
 
-/// The count whose digits are the first line of a text, and the text after it. Each counted thing
-/// takes at least a byte of that text.
+/// The number in the first line of a text, and the text after it. The number is a count of items
+/// that each take at least a byte of the text after it. `Shape` comes only if the text does not
+/// begin so.
 pub(crate) fn count_line(text: &[u8]) -> Result<(usize, &[u8]), ReadFault>
     ensures { (n : ℕ) (rest : List ℕ) → n ≤ length rest → text.now ≡ decimal n ++ 10 ∷ rest →
         Finds result (λ p. (p.0 ≡ n) × (p.1.now ≡ rest)) }
@@ -69,7 +72,8 @@ pub(crate) fn count_line(text: &[u8]) -> Result<(usize, &[u8]), ReadFault>
     }
 }
 
-/// The number below 2^32 whose digits come before a byte, and the text after that.
+/// The number below 2^32 whose decimal digits come before `byte`, and the text after that. `Shape`
+/// comes only if the text does not begin so.
 pub(crate) fn number_before(text: &[u8], byte: u8) -> Result<(u32, &[u8]), ReadFault>
     requires { byte < 48 }
     ensures { (n : ℕ) (rest : List ℕ) → n < 2 ^ 32 → text.now ≡ decimal n ++ byte ∷ rest →
@@ -82,7 +86,8 @@ pub(crate) fn number_before(text: &[u8], byte: u8) -> Result<(u32, &[u8]), ReadF
     }
 }
 
-/// The number below 2^8 whose digits come before a byte, and the text after that.
+/// The number below 2^8 whose decimal digits come before `byte`, and the text after that. `Shape`
+/// comes only if the text does not begin so.
 pub(crate) fn byte_before(text: &[u8], byte: u8) -> Result<(u8, &[u8]), ReadFault>
     requires { byte < 48 }
     ensures { (n : ℕ) (rest : List ℕ) → n < 2 ^ 8 → text.now ≡ decimal n ++ byte ∷ rest →
@@ -95,7 +100,8 @@ pub(crate) fn byte_before(text: &[u8], byte: u8) -> Result<(u8, &[u8]), ReadFaul
     }
 }
 
-/// The tuple of `arity` labels with which a text begins, and the text after it.
+/// The tuple of `arity` labels with which a text begins, and the text after it. `Shape` comes only
+/// if the text does not begin with a readable tuple.
 pub(crate) fn tuple_at(
     alloc: Global,
     text: &[u8],
@@ -117,7 +123,8 @@ pub(crate) fn tuple_at(
     Ok((tuple, left))
 }
 
-/// The number whose exact text a word is.
+/// The number whose exact text the word is. `Shape` comes only if it is that of no number that fits
+/// under the field's limit.
 pub(crate) fn exact_in<F: ExactField>(word: &[u8]) -> Result<F, ReadFault>
     ensures { (x : Number) → fits F.limit x ≡ true → word.now ≡ exact_text x → Finds result (λ y. F.value y ≡ x) }
 {

@@ -1,4 +1,4 @@
-//! Whether a state is a saved one of what a program declares.
+//! Whether a state is a saved state of a program.
 ghost use Rattle.std.specs.Prelude.{◌≡◌, ◌↔◌, ◌&&◌, true, nat_le, length, IsTrue, IfOk};
 ghost use Rattle.std.specs.List.{list_all};
 ghost use Rattle.gms_tuple.specs.TupleSet.{has};
@@ -21,7 +21,7 @@ fn are_statuses(model: u8, solver: u8) -> bool
     }
 }
 
-/// Whether settings are in the ranges that their options allow (GAMS User's Guide, "The Option
+/// Whether the settings are in the ranges of their options (GAMS User's Guide, "The Option
 /// Statement").
 pub fn are_in_range(settings: Settings) -> bool
     ensures { result ≡ are_in_range settings }
@@ -32,8 +32,8 @@ pub fn are_in_range(settings: Settings) -> bool
         && settings.decimals <= 8
 }
 
-/// Whether a text is the name of a solver, or `none`: a letter, and at most 62 letters, digits and
-/// `_` after it.
+/// Whether a text has the form of the solver's name in a save, which the word `none` has too: a
+/// letter, followed by at most 62 letters, digits and `_`.
 pub fn is_solver_name(text: &[u8]) -> bool
     ensures { result ≡ is_solver_name text.now }
 {
@@ -128,8 +128,10 @@ fn fits_domain<F: ExactField>(
     Ok(true)
 }
 
-/// Whether the data of a name are in its domain, with labels below `labels`, and whether a model
-/// has the statuses of one before or after a solve.
+/// Whether the data that a state has for the name with the number `name` are valid in a program
+/// with `labels` labels: the tuples are in the domain of the name, with labels whose numbers are
+/// below `labels`, and a model has the two statuses of some end of a solve, or those before its
+/// first solve.
 pub fn is_given_well<F: ExactField>(
     alloc: Global,
     store: &Store<F>,
@@ -155,7 +157,8 @@ pub fn is_given_well<F: ExactField>(
     Ok(true)
 }
 
-/// Whether a set has the same members in two states.
+/// Whether a set has the same members in the states `store` and `other`. `set` is the number of the
+/// set's name.
 pub fn has_same_members<F: ExactField>(store: &Store<F>, other: &Store<F>, set: u32) -> bool
     ensures { IsTrue result ↔ (members_of store.now set ≡ members_of other.now set) }
 {

@@ -16,7 +16,8 @@ use gms_store::Attributes;
 use gq_extended::Ext;
 use gq_field::ExactField;
 
-/// The value whose text is the first line of a text, and the text after it.
+/// The value in the first line of a text, and the text after it. `Shape` comes only if the line is
+/// that of no value that fits under the field's limit.
 pub(crate) fn value_line<F: ExactField>(text: &[u8]) -> Result<(Ext<F>, &[u8]), ReadFault>
     ensures { (x : Extended) (rest : List ℕ) → value_fits F.limit x ≡ true → text.now ≡ saved_line (value_text x) ++ rest →
         Finds result (λ p. (extended F.value p.0 ≡ x) × (p.1.now ≡ rest)) }
@@ -72,7 +73,8 @@ fn exact_before<F: ExactField>(text: &[u8], byte: u8) -> Result<(F, &[u8]), Read
     Ok((number, rest))
 }
 
-/// The attributes whose text is the first line of a text, and the text after it.
+/// The attributes in the first line of a text, and the text after it. `Shape` comes only if the
+/// line is that of no attributes that fit under the field's limit.
 pub(crate) fn attributes_line<F: ExactField>(
     text: &[u8],
 ) -> Result<(Attributes<F>, &[u8]), ReadFault>

@@ -15,10 +15,9 @@ use gms_store::{Settings, Store};
 use gq_field::ExactField;
 use std::alloc::Global;
 
-/// The source of a saved state, and the text after it. If the text is that of a state with a
-/// source, it is that source.
+/// The source in the text of a save, and the rest of the text after the source.
 ///
-/// `Shape` comes only where the text is that of no state with any source.
+/// The error `Shape` occurs only if the text is that of no save.
 pub fn read_source(text: &[u8]) -> Result<(&[u8], &[u8]), ReadFault>
     ensures { (source rest : List ℕ) → text.now ≡ saved_line (codes "gams25 save 1") ++ (source_text source ++ rest) →
         Finds result (λ p. (p.0.now ≡ source) × (p.1.now ≡ rest)) }
@@ -74,12 +73,13 @@ fn settings_at(text: &[u8]) -> Result<(Settings, &[u8], &[u8]), ReadFault>
     Ok((settings, solver, rest))
 }
 
-/// The state that has this text after the source, for the names of a program, with the first solver
-/// in its settings; and the name of its solver.
+/// Reads a state of `program` from `text`, the rest of a save after its source. The program gives
+/// the names. The text gives the state and the name of the solver; the index of the solver in the
+/// settings of the state is 0.
 ///
-/// If the text is that of a saved state of the program, with at most 2^32 labels, it is that state.
-/// It declares what the program declares. `Shape` comes only where the text is that of no such
-/// state. Other texts may be accepted too.
+/// If the text is that of a saved state of the program, with at most 2^32 labels, the result is
+/// that state, except for that index. The result always declares what the program declares. The
+/// error `Shape` occurs only if the text is that of no such state. Other texts may be accepted too.
 pub fn read_state<'t, F: ExactField>(
     alloc: Global,
     program: &Program<F>,

@@ -1,4 +1,4 @@
-//! Writing the text of a saved state: each call appends a piece.
+//! Writing the text of a save: each function appends a piece.
 ghost use Rattle.std.specs.Prelude.{◌≡◌, ◌<◌, ◌++◌, ◌∷◌, [], ℕ, true, length, decimal, option_map, codes, OnOk, IfOk};
 ghost use Rattle.gq_extended.specs.Meaning.{extended};
 ghost use Rattle.gq_text.specs.ExactText.{exact_text};
@@ -91,7 +91,8 @@ fn push_attributes<F: ExactField>(into: &mut Vec<u8>, a: Attributes<F>) -> Resul
     push_exact(into, a.marginal)
 }
 
-/// Appends the line of an entry of a name at a tuple, which is searched for at a place first.
+/// Appends the line of the entry of a name at a tuple. `place` is the index of the tuple among
+/// those with data, by which the entry is found sooner.
 pub(crate) fn push_entry<F: ExactField>(
     into: &mut Vec<u8>,
     store: &Store<F>,
@@ -149,7 +150,8 @@ fn push_model(into: &mut Vec<u8>, name: &str, statuses: (u8, u8)) -> Result<(), 
     push(into, b"\n")
 }
 
-/// Appends the first line of the part of a name: what it is, and how many entries it has.
+/// Appends the first line for a name that can have entries: the word for its kind, the name, and
+/// the number of its entries.
 pub(crate) fn push_head(
     into: &mut Vec<u8>,
     word: &[u8],
@@ -164,7 +166,7 @@ pub(crate) fn push_head(
     push(into, b"\n")
 }
 
-/// Appends the part of a name.
+/// Appends the lines for the name of this number.
 pub(crate) fn push_part<F: ExactField>(
     into: &mut Vec<u8>,
     store: &Store<F>,
@@ -220,7 +222,7 @@ fn push_item(into: &mut Vec<u8>, n: u32) -> Result<(), AllocError>
     push(into, b" ")
 }
 
-/// Appends the line of the settings, with the name of the solver.
+/// Appends the line of the settings, with the name of the solver in place of its index.
 pub(crate) fn push_settings(
     into: &mut Vec<u8>,
     settings: Settings,
@@ -257,7 +259,8 @@ fn push_source(into: &mut Vec<u8>, source: &[u8]) -> Result<(), AllocError>
     push(into, b"\n")
 }
 
-/// The text of a state with a source and these names, where its solver has this name.
+/// The text of the save of the state `store`, for a program with this source and these names;
+/// `solver` is the name of the chosen solver.
 pub fn text_of<F: ExactField>(
     alloc: Global,
     source: &[u8],

@@ -10,16 +10,18 @@ use Rattle.gms_store.specs.State.{base_of}
 use Rattle.gms_store.specs.Declarations.{declared_state}
 
 module _ {F : Type 0} where
-  -- the names that an act assigns; a loop those that its body assigns
+  -- the names that an act assigns: the left side of an assignment, and in a loop those that the
+  -- statements of the body assign
   abbrev pub assigned_step : Act-F F (List ℕ) (List ℕ) → List ℕ
   assigned_step (Act-F.Assign target condition right_at right) = target.name ∷ []
   assigned_step (Act-F.Loop control body) = flat_map (λ names. names) body.items
   assigned_step act = []
 
-  -- the names that a statement assigns
+  -- the names that a statement assigns, also within loops
   abbrev pub assigned_names : Stmt F → List ℕ
   assigned_names = fold-Stmt F (List ℕ) (List ℕ) assigned_step (λ statement. statement.act)
 
-  -- the sets that a program assigns, an alias as its set
+  -- the names that the statements of a program assign, an alias replaced by its set; the sets among
+  -- them are the dynamic ones
   abbrev pub dynamic_sets : Program F → List ℕ
   dynamic_sets program = map (base_of (declared_state program)) (flat_map assigned_names program.statements.items)

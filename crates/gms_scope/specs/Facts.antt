@@ -17,25 +17,26 @@ use Rattle.gms_scope.specs.Entries.{DeclarationList, entry, names_of_entries}
 use Rattle.gms_scope.specs.Data.{with_no_data, given_to}
 use Rattle.gms_scope.specs.DynamicSets.{dynamic_sets}
 
--- What is known before a statement. Marks are by the numbers of names.
+-- What is known before a statement. Each list of marks has one entry for each name, by its number.
 pub record Facts : Type 0 where
-  -- what is declared, with the data that are given
+  -- the declared names, with the data that the statements before give
   pub state : State
-  -- the names that are declared, in order, repeated for each declaration, with the set that each is
-  -- directly below
+  -- the declared names in the order of their declarations, one entry for each declaration, with the
+  -- domain set of a one-dimensional set
   pub declared : DeclarationList
   -- the sets that some statement of the program assigns
   pub dynamic : List Bool
-  -- the sets whose labels are given in another order than that of all labels
+  -- the sets whose labels are given in another order than that in which labels first occur
   pub unordered : List Bool
   -- the equations that are defined
   pub defined : List Bool
   -- the equations that are declared, in order
   pub equations : List ℕ
-  -- the models with their equations, in order, repeated for each declaration
+  -- the models in the order of their declarations, one entry for each declaration: the model's name
+  -- and its equations
   pub models : List (ℕ × List ℕ)
 
--- facts are determined by their seven parts
+-- the encoding of facts by their seven fields, which determine them
 abbrev pub facts_code : Coded Facts
 facts_code =
     code_by (State × (DeclarationList × (List Bool × (List Bool × (List Bool × (List ℕ × List (ℕ × List ℕ))))))) (coded× state_code (coded× (coded_list (coded× coded_ℕ (coded_option coded_ℕ))) (coded× (coded_list coded_bool) (coded× (coded_list coded_bool) (coded× (coded_list coded_bool) (coded× (coded_list coded_ℕ) (coded_list (coded× coded_ℕ (coded_list coded_ℕ)))))))))
@@ -43,34 +44,35 @@ facts_code =
 
 -- ---- questions
 
--- whether a name is marked
+-- whether the name of this number is marked
 abbrev pub marked : List Bool → ℕ → Bool
 marked marks name = slice_index_or marks name false
 
--- marks with more names marked
+-- the marks, with these names marked too
 abbrev pub with_marks : List Bool → List ℕ → List Bool
 with_marks marks names = fold (λ marks name. slice_set marks name true) marks names
 
--- whether a set is dynamic, an alias as its set
+-- whether a set, or the set of an alias, is dynamic: some statement of the program assigns it
 abbrev pub is_known_dynamic : Facts → ℕ → Bool
 is_known_dynamic facts name = marked facts.dynamic (base_of facts.state name)
 
--- whether a set is ordered: one-dimensional, not dynamic, and its labels are given in the order of
--- all labels
+-- whether a set is ordered: one-dimensional, not dynamic, and with its labels given in the order in
+-- which labels first occur in the program
 abbrev pub is_known_ordered : Facts → ℕ → Bool
 is_known_ordered facts name =
     is_index_set facts.state name && (not (is_known_dynamic facts name) && not (marked facts.unordered (base_of facts.state name)))
 
--- the equations of a model, by its first declaration
+-- the equations of a model, as its first entry in the list has them; none if the list does not have
+-- it
 abbrev pub declared_equations : List (ℕ × List ℕ) → ℕ → List ℕ
 declared_equations [] name = []
 declared_equations (model ∷ models) name = if model.0 == name then model.1 else declared_equations models name
 
--- whether an equation is not defined
+-- whether an equation has no definition, where `defined` marks those that have one
 abbrev pub is_missing : List Bool → ℕ → Bool
 is_missing defined name = not (marked defined name)
 
--- the names that are declared, in order
+-- the names that are declared, in order, one entry for each declaration
 abbrev pub names : Facts → List ℕ
 names facts = names_of_entries facts.declared
 
@@ -81,50 +83,56 @@ has_undefined facts name =
 
 -- ---- changes
 
--- what the declaration of a name adds to the entries, where the name is directly below `above`
+-- what the declaration of a name appends to the list of declarations, where `above` is its domain
+-- set, if any
 abbrev pub declared_entry : Facts → ℕ → Option ℕ → DeclarationList
 declared_entry facts name above = entry (length facts.defined) facts.declared name above
 
--- the set that a name is directly below after its declaration, if it was new
+-- the domain set of a name that was just declared, if the name was new (true); None for a later
+-- declaration of a name
 abbrev pub above_new : Bool → State → ℕ → Option ℕ
 above_new true state name = base_above state name
 above_new false state name = None
 
--- the equation that a declaration of this kind adds, if the name then is one
+-- the equation that a declaration of this kind adds to the declared ones: the name, if the kind is
+-- Equation and the state after the declaration has the name as an equation
 abbrev pub equation_in : DeclKind → State → ℕ → List ℕ
 equation_in Equation state name = if is_equation (declared_kind state name) then name ∷ [] else []
 equation_in kind state name = []
 
--- what is known after a name was declared, without its data
+-- what is known after a name was declared, by a declaration of this kind with this written domain,
+-- without its data
 abbrev pub with_declared : DeclKind → List (Option ℕ) → Facts → ℕ → Facts
 with_declared kind domain facts name =
     record facts { state = declare kind domain facts.state name; declared = facts.declared ++ declared_entry facts name (above_new (has_no_declaration facts.state name) (declare kind domain facts.state name) name); equations = facts.equations ++ equation_in kind (declare kind domain facts.state name) name }
 
--- the entries after two names were declared, one after the other
+-- the list of declarations after those of `first` and then `second` were appended, without domain
+-- sets
 abbrev pub with_two : Facts → ℕ → ℕ → DeclarationList
 with_two facts first second =
     (facts.declared ++ declared_entry facts first None) ++ declared_entry facts second None
 
--- what is known after one of two names was made an alias of the other
+-- what is known after the statement `alias (first, second)`
 abbrev pub with_alias : Facts → ℕ → ℕ → Facts
 with_alias facts first second =
     record facts { state = declare_alias facts.state first second; declared = with_two facts first second }
 
--- what is known after the name of a model was declared
+-- what is known after a name was declared as a model, whose equations follow by `with_model`
 abbrev pub with_model_name : Facts → ℕ → Facts
 with_model_name facts name =
     record facts { state = declare_model facts.state name; declared = facts.declared ++ declared_entry facts name None }
 
--- a model with its equations, in a program of `names` names
+-- a model with its equations, as an entry of the list of models; no entry if `name` is no number
+-- below `names`, the number of names of the program
 abbrev pub model_entry : ℕ → ℕ → List ℕ → List (ℕ × List ℕ)
 model_entry names name equations = if nat_lt name names then (name, equations) ∷ [] else []
 
--- what is known after the equations of a model were listed
+-- what is known after a model of these equations was added to the list of models
 abbrev pub with_model : Facts → ℕ → List ℕ → Facts
 with_model facts name equations =
     record facts { models = facts.models ++ model_entry (length facts.defined) name equations }
 
--- what is known after the data of a name were given
+-- what is known after the data `given` were written to a name
 abbrev pub facts_with_data : {F : Type 0} → (F → Number) → Facts → ℕ → List (List ℕ × Option (Ext F)) → Facts
 facts_with_data value facts name given = record facts { state = given_to value name facts.state given }
 
@@ -132,7 +140,8 @@ facts_with_data value facts name given = record facts { state = given_to value n
 abbrev pub without_data : Facts → ℕ → Facts
 without_data facts name = record facts { state = with_no_data facts.state name }
 
--- what is known after a set was found to have its labels in another order than that of all labels
+-- what is known after a set was found to have its labels in another order than that in which labels
+-- first occur
 abbrev pub with_unordered : Facts → ℕ → Facts
 with_unordered facts name = record facts { unordered = slice_set facts.unordered name true }
 
@@ -141,7 +150,8 @@ abbrev pub with_definition : Facts → ℕ → Facts
 with_definition facts name = record facts { defined = slice_set facts.defined name true }
 
 module _ {F : Type 0} where
-  -- before the first statement of a program nothing is declared, defined or given
+  -- what is known before the first statement of a program: nothing is declared, defined or has
+  -- data; the sets that some statement assigns are dynamic
   abbrev pub first_facts : Program F → Facts
   first_facts program =
       record { state = blank_state (length program.names); declared = []; dynamic = with_marks (replicate (length program.names) false) (dynamic_sets program); unordered = replicate (length program.names) false; defined = replicate (length program.names) false; equations = []; models = [] }

@@ -1,12 +1,13 @@
--- The invariants of all parts.
+-- The invariant of what is known before a statement, as it is stored.
 use Rattle.std.specs.Prelude.{◌≡◌, Bool, List, length}
 use Rattle.gms_scope.specs.declared.order.Order.{Order}
 use Rattle.gms_scope.specs.declared.model.Models.{Models}
 use Rattle.gms_scope.specs.Order.{IsOrder}
 use Rattle.gms_scope.specs.Models.{AreModelsCounted, AreModelsListed}
 
--- the parts are of the same number of names, each satisfies its invariant, and equations that are
--- counted as defined are defined
+-- The order of names, the marks of defined equations and the models are for the same number of
+-- names. The order and the models satisfy their invariants, and the first equations of each model
+-- that it counts as defined are marked so.
 pub record IsConsistent (order : Order) (defined : List Bool) (models : Models) : Type 0 where
   pub ordered : IsOrder order
   pub listed : AreModelsListed models

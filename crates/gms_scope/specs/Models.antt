@@ -8,57 +8,62 @@ use Rattle.gms_scope.specs.declared.model.Models.{Models}
 use Rattle.gms_scope.specs.Facts.{is_missing}
 use Rattle.gms_scope.specs.Order.{order_of}
 
--- the equations of a model, where `declared` are all that are declared
+-- the equations of a model, where `declared` are all declared equations, in order: the first
+-- `count` of these for `/all/`, otherwise the listed ones
 abbrev pub equations_within : List ℕ → Equations → List ℕ
 equations_within declared (All count) = take count declared
 equations_within declared (Listed equations) = equations.items
 
--- the names of models
+-- the names of models, in order
 abbrev pub model_names : List Model → List ℕ
 model_names models = map (λ (model : Model). model.name) models
 
--- the model at a place; past the last one a model without equations
+-- the model at an index of the list; past the last one a model without equations
 abbrev pub model_at : List Model → ℕ → Model
 model_at models place = slice_index_or models place (record { name = 0; equations = All 0; defined = 0 })
 
--- a model with another count of defined equations
+-- the model, with `count` as the number of its first equations that are known to be defined
 abbrev pub recounted : Model → ℕ → Model
 recounted model count = record { name = model.name; equations = model.equations; defined = count }
 
--- the models with their equations, where `declared` are all that are declared
+-- each model's name with its equations, where `declared` are all declared equations, in order
 abbrev pub models_within : List ℕ → List Model → List (ℕ × List ℕ)
 models_within declared models = map (λ (model : Model). (model.name, equations_within declared model.equations)) models
 
--- the models with their equations
+-- the name of each stored model with its equations
 abbrev pub models_in : Models → List (ℕ × List ℕ)
 models_in models = models_within models.equations.items models.models.items
 
--- the first `count` declared equations exist
+-- a model of the first `count` declared equations has no more equations than are declared; of
+-- listed equations nothing is required
 abbrev pub AreEquationsDeclared : List ℕ → Equations → Type 0
 AreEquationsDeclared declared (All count) = count ≤ length declared
 AreEquationsDeclared declared (Listed equations) = Unit {0}
 
--- each model's equations exist
+-- no model of the first `count` declared equations has more equations than are declared
 abbrev pub AreAllThere : List ℕ → List Model → Type 0
 AreAllThere declared [] = Unit {0}
 AreAllThere declared (model ∷ models) = AreEquationsDeclared declared model.equations × AreAllThere declared models
 
--- each name's first place is stored, and the equations of models exist
+-- `places` has for each name the index of its first model in the list of models, plus 1, or 0 if
+-- there is none; and no model of the first declared equations has more than are declared.
 pub record AreModelsListed (models : Models) : Type 0 where
   pub places : (name : ℕ) → slice_index_or models.places.items name 0 ≡ order_of (model_names models.models.items) name
   pub there : AreAllThere models.equations.items models.models.items
 
--- the first `model.defined` equations of a model are defined
+-- The first `model.defined` equations of a model exist, and are marked in `defined`.
 pub record IsCountedModel (defined : List Bool) (declared : List ℕ) (model : Model) : Type 0 where
   pub most : model.defined ≤ length (equations_within declared model.equations)
   pub known : list_any (is_missing defined) (take model.defined (equations_within declared model.equations)) ≡ false
 
--- the counts of these models are right
+-- each of these models counts its defined equations right: as many of its first equations as it
+-- counts exist, and are marked in `defined`
 abbrev pub AreCounted : List Bool → List ℕ → List Model → Type 0
 AreCounted defined declared [] = Unit {0}
 AreCounted defined declared (model ∷ models) =
     IsCountedModel defined declared model × AreCounted defined declared models
 
--- the counts of all models are right
+-- each stored model counts its defined equations right: as many of its first equations as it counts
+-- exist, and are marked in `defined`
 abbrev pub AreModelsCounted : List Bool → Models → Type 0
 AreModelsCounted defined models = AreCounted defined models.equations.items models.models.items

@@ -15,7 +15,7 @@ abbrev pub is_model : SymbolKind → Bool
 is_model kind.Model = true
 is_model kind = false
 
--- what a name is declared as
+-- the kind that a name is declared as
 abbrev pub declared_kind : State → ℕ → SymbolKind
 declared_kind state name = kind_in (symbol_at state name).content
 
@@ -23,11 +23,12 @@ declared_kind state name = kind_in (symbol_at state name).content
 abbrev pub has_no_declaration : State → ℕ → Bool
 has_no_declaration state name = is_undeclared (symbol_at state name).content
 
--- whether a name is that of a set
+-- whether a name is that of a set or of an alias of one
 abbrev pub is_set_name : State → ℕ → Bool
 is_set_name state name = is_set (symbol_at state name).content
 
--- the set of each position of a name
+-- the set of each position of a name, None for one that admits any label; an alias has the
+-- positions of its set
 abbrev pub positions : State → ℕ → List (Option ℕ)
 positions state name = (symbol_of state name).domain
 

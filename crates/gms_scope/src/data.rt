@@ -13,11 +13,13 @@ use gq_extended::Ext;
 use gq_field::ExactField;
 use std::alloc::{AllocError, Global};
 
-/// Elements with their values.
+/// Tuples with their values, in the order of the data. The value is `None` for an element of a set.
 pub type Data<F> = Vec<(Tuple, Option<Ext<F>>)>;
 
-/// The set of each position of a name that is declared: a set has one position, of any label, if
-/// none is written (GAMS User's Guide, "Set Definition").
+/// The set at each position of a name that is declared as `kind` with the written domain `domain`,
+/// by the number of its name; `None` at a position that admits any label. A set without a written
+/// domain has one position, which admits any label (GAMS User's Guide, "Set Definition"). The error
+/// is out of memory.
 pub fn positions(
     alloc: Global,
     kind: DeclKind,
@@ -44,8 +46,10 @@ fn names(alloc: Global, domain: &[Option<Named>]) -> Result<Vec<Option<u32>>, Al
     Ok(sets)
 }
 
-/// Puts the data of a name into a state: a set gets the elements, a parameter the values at them
-/// (GAMS User's Guide, "Data Entry: Parameters, Scalars and Tables").
+/// Writes the data `given` of the name `name` to the state `store`. A tuple without a value becomes
+/// a member of the set `name`; a tuple with a value gets it as the value of the parameter `name` at
+/// this tuple (GAMS User's Guide, "Data Entry: Parameters, Scalars and Tables"). The error is out
+/// of memory.
 pub fn put_data<F: ExactField>(
     alloc: Global,
     store: &mut Store<F>,
@@ -63,7 +67,7 @@ pub fn put_data<F: ExactField>(
     Ok(())
 }
 
-/// Removes all data of a name from a state.
+/// Removes all data of a name from a state: the members of a set or the values of a parameter.
 pub(crate) fn take_out_data<F: ExactField>(
     alloc: Global,
     store: &mut Store<F>,
@@ -97,8 +101,9 @@ fn given_tuples<F: ExactField>(
     Ok(tuples)
 }
 
-/// Whether the labels of items ascend, in the order in which they are written, ranges written out
-/// (GAMS User's Guide, "Sets as Sequences: Ordered Sets").
+/// Whether the labels of items, in the order in which they are written, have ascending numbers in
+/// the table of labels. A range counts as all of its labels (GAMS User's Guide, "Sets as Sequences:
+/// Ordered Sets").
 pub fn are_ascending<F>(items: &[Item<F>]) -> bool
     ensures { result ≡ is_ascending (labels_of_items items.now) }
 {
@@ -112,8 +117,8 @@ pub fn are_ascending<F>(items: &[Item<F>]) -> bool
     true
 }
 
-/// The least number that may follow the labels of some parts that ascend from a least number;
-/// `None` if they do not ascend.
+/// The least number that may follow the labels of these parts in an ascending list whose numbers
+/// are `least` or more; `None` if the labels do not ascend so.
 fn least_after_parts(least: u64, parts: &[Sequence<u32>]) -> Option<u64>
     ensures { result ≡ least_after least (flat_map (λ labels. labels) parts.now) }
 {
@@ -127,8 +132,8 @@ fn least_after_parts(least: u64, parts: &[Sequence<u32>]) -> Option<u64>
     Some(least)
 }
 
-/// The least number that may follow some labels that ascend from a least number; `None` if they do
-/// not ascend.
+/// The least number that may follow these labels in an ascending list whose numbers are `least` or
+/// more; `None` if the labels do not ascend so.
 fn least_after(least: u64, labels: &[u32]) -> Option<u64>
     ensures { result ≡ least_after least labels.now }
 {

@@ -10,8 +10,8 @@ use gms_store::Store;
 use gq_field::ExactField;
 use std::alloc::{AllocError, Global};
 
-/// A mark for each name that some statement of a program assigns, an alias as its set: a set with a
-/// mark is dynamic.
+/// Marks on the names that some statement of a program assigns; in place of an alias, its set is
+/// marked. A set that is marked is dynamic. The error is out of memory.
 pub fn dynamic_sets<F: ExactField>(alloc: Global, program: &Program<F>) -> Result<Marks, AllocError>
     ensures { IfOk result (λ marks. marks ≡ with_marks (replicate (length program.now.names) false) (dynamic_sets program.now)) }
 {
@@ -31,8 +31,9 @@ fn mark_assigned<F: ExactField>(statements: &[Stmt<F>], store: &Store<F>, marks:
     }
 }
 
-/// Marks the name that a statement assigns, or those that its body assigns (GAMS User's Guide,
-/// "Dynamic Sets"), an alias as its set in a state. Earlier marks stay.
+/// Marks the names that a statement assigns, also in the bodies of its loops (GAMS User's Guide,
+/// "Dynamic Sets"). In place of an alias, marks the set of which it is an alias in the state
+/// `store`. Earlier marks stay.
 #[cycle(assigned)]
 pub fn mark_statement<F: ExactField>(statement: &Stmt<F>, store: &Store<F>, marks: &mut Marks)
     ensures { marks.new ≡ with_marks marks.old (map (base_of store.now) (assigned_names statement.now)) }

@@ -21,8 +21,9 @@ use std::alloc::{AllocError, Global};
 use std::marker::Model;
 
 /// What is known before a statement: the state after the statements before it; which names are
-/// declared, in which order; which equations are defined; which sets are dynamic; which are not in
-/// the order of the labels; and the equations of the models.
+/// declared, in which order; which equations are defined; which sets are dynamic; which sets have
+/// their labels in another order than that in which labels first occur; and the equations of the
+/// models.
 ///
 /// Names are numbers in the program's table. A name that the program does not have is not declared.
 pub struct Known<F: ExactField> {
@@ -65,8 +66,8 @@ impl<F: ExactField> Model for Known<F> {
 }
 
 impl<F: ExactField> Known<F> {
-    /// What is known before the first statement of a program: which sets some statement of it
-    /// assigns.
+    /// What is known before the first statement of a program: no name is declared, and each set
+    /// that some statement of the program assigns is dynamic. The error is out of memory.
     pub fn new(alloc: Global, program: &Program<F>) -> Result<Known<F>, AllocError>
         ensures { IfOk result (λ known. known ≡ first_facts program.now) }
     {
@@ -81,49 +82,52 @@ impl<F: ExactField> Known<F> {
         })
     }
 
-    /// The state: what is declared, with the data that are given.
+    /// The state after the statements before this point: the names that they declare, with the data
+    /// that they give.
     pub fn store(&self) -> &Store<F>
         ensures { result.now ≡ self.now.state }
     {
         &self.store
     }
 
-    /// What a name is declared as.
+    /// The kind as which a name is declared; `Undeclared` if no statement before this point
+    /// declares the name.
     pub fn kind(&self, name: u32) -> SymbolKind
         ensures { result ≡ declared_kind self.now.state name }
     {
         self.store.kind_of(name)
     }
 
-    /// Whether no statement before declares a name.
+    /// Whether no statement before this point declares a name.
     pub fn is_unknown(&self, name: u32) -> bool
         ensures { result ≡ has_no_declaration self.now.state name }
     {
         self.kind(name) == SymbolKind::Undeclared
     }
 
-    /// Whether a name is that of a set.
+    /// Whether a name is declared as a set, or as an alias of one.
     pub fn is_set(&self, name: u32) -> bool
         ensures { result ≡ is_set_name self.now.state name }
     {
         self.kind(name) == SymbolKind::Set
     }
 
-    /// How many positions a name has.
+    /// How many positions the domain of a name has.
     pub fn position_count(&self, name: u32) -> usize
         ensures { result ≡ length (positions self.now.state name) }
     {
         self.store.domain_of(name).len()
     }
 
-    /// The set of a position of a name, if the name has that position.
+    /// The set at the position `place`, counted from 0, of the domain of a name. `Some(None)` if
+    /// the position admits any label, and `None` if the name has no such position.
     pub fn position(&self, name: u32, place: usize) -> Option<Option<u32>>
         ensures { result ≡ slice_get (positions self.now.state name) place }
     {
         self.store.domain_of(name).get(place).copied()
     }
 
-    /// Whether a name is that of a one-dimensional set.
+    /// Whether a name is declared as a one-dimensional set, or as an alias of one.
     pub fn is_index_set(&self, name: u32) -> bool
         ensures { result ≡ is_index_set self.now.state name }
     {
@@ -138,8 +142,9 @@ impl<F: ExactField> Known<F> {
         self.dynamic.is_set(self.store.base(set))
     }
 
-    /// Whether a set is ordered: one-dimensional and not dynamic, with its labels in the order of
-    /// all labels (GAMS User's Guide, "Sets as Sequences: Ordered Sets").
+    /// Whether a set is ordered: it is one-dimensional and not dynamic, and its labels are given in
+    /// the order in which labels first occur in the program (GAMS User's Guide, "Sets as Sequences:
+    /// Ordered Sets").
     pub fn is_ordered(&self, set: u32) -> bool
         ensures { result ≡ is_known_ordered self.now set }
     {
@@ -156,9 +161,11 @@ impl<F: ExactField> Known<F> {
         self.is_index_set(domain_set) && self.order.is_before(domain_set, self.store.base(name))
     }
 
-    /// Whether a set may be the index of a position of a name: the position is of any label, or the
-    /// set is below the position's set, which is declared before the name (GAMS User's Guide, "Set
-    /// Definition", domain checking).
+    /// Whether the set `index` may be the index at a position of the name `name`. `position` is the
+    /// set that the name's domain has at the position. If it is `None`, each set may be the index.
+    /// Otherwise the set `position` must be one-dimensional and declared before the name, and
+    /// `index` must be that set or one of its subsets, by the sets in their domains (GAMS User's
+    /// Guide, "Set Definition", domain checking).
     pub fn fits(&self, name: u32, position: Option<u32>, index: u32) -> bool
         ensures { result ≡ set_fits_position self.now.state (names self.now) (above_of self.now.declared) name position index }
     {
@@ -173,8 +180,10 @@ impl<F: ExactField> Known<F> {
         }
     }
 
-    /// Whether a label may be the index of a position of a name: the position is of any label, or
-    /// its set, which is declared before the name, has the label.
+    /// Whether the label `label` may be the index at a position of the name `name`. `position` is
+    /// the set that the name's domain has at the position. If it is `None`, each label may be the
+    /// index. Otherwise the set `position` must be one-dimensional and declared before the name,
+    /// and have the label as a member. The error is out of memory.
     pub fn holds(
         &self,
         alloc: Global,
@@ -192,14 +201,15 @@ impl<F: ExactField> Known<F> {
         Ok(self.bounds(name, domain_set) && self.store.member(domain_set, &tuple))
     }
 
-    /// Whether a statement before defines an equation.
+    /// Whether a statement before this point defines an equation.
     pub fn is_defined(&self, equation: u32) -> bool
         ensures { result ≡ marked self.now.defined equation }
     {
         self.defined.is_set(equation)
     }
 
-    /// Whether all equations of a model are defined; true for any other name.
+    /// Whether all equations of a model are defined; true for a name that is not declared as a
+    /// model.
     pub fn all_defined(&mut self, model: u32) -> bool
         ensures answer { result ≡ not (has_undefined self.old model) }
         ensures unchanged { self.new ≡ self.old }
@@ -210,8 +220,9 @@ impl<F: ExactField> Known<F> {
         self.models.all_defined(model, &self.defined)
     }
 
-    /// Declares a name of a kind with its domain, without data. Of several declarations of one name
-    /// the first counts, except for the type of a free variable (GAMS User's Guide, "Variables").
+    /// Declares the name `name` as `kind` with the domain `domain`, without data. If a name is
+    /// declared more than once, its first declaration counts, except that a later one may give a
+    /// type to a free variable (GAMS User's Guide, "Variables"). The error is out of memory.
     pub fn declare(
         &mut self,
         alloc: Global,
@@ -231,8 +242,8 @@ impl<F: ExactField> Known<F> {
         Ok(())
     }
 
-    /// The set that a one-dimensional set is directly below, an alias as its set, if the set of its
-    /// domain counts.
+    /// The domain set of a one-dimensional set, an alias replaced by its set; `None` if it has none
+    /// that counts.
     fn superset(&self, set: u32) -> Option<u32>
         ensures { result ≡ base_above self.now.state set }
     {
@@ -247,8 +258,9 @@ impl<F: ExactField> Known<F> {
         }
     }
 
-    /// Makes one of two names another name of the other, which is a set; if neither can be,
-    /// declares both as sets (GAMS User's Guide, "Set Definition", aliases).
+    /// Of the names `first` and `second`, makes the one that is undeclared an alias of the other,
+    /// if the other is a set. In any other case, declares as a set each of the two that is
+    /// undeclared (GAMS User's Guide, "Set Definition", aliases). The error is out of memory.
     pub fn declare_alias(
         &mut self,
         alloc: Global,
@@ -262,8 +274,8 @@ impl<F: ExactField> Known<F> {
         self.order.declare(second, None)
     }
 
-    /// Declares a model, of which no equations are known yet (GAMS User's Guide, "Model and Solve
-    /// Statements").
+    /// Declares a name as a model. A call of `list` or `list_all` then stores the equations of the
+    /// model (GAMS User's Guide, "Model and Solve Statements").
     pub fn declare_model(&mut self, alloc: Global, name: u32) -> Result<(), AllocError>
         ensures { OnOk result (self.new ≡ with_model_name self.old name) }
     {
@@ -271,22 +283,26 @@ impl<F: ExactField> Known<F> {
         self.order.declare(name, None)
     }
 
-    /// Remembers that a model is of all equations that are declared so far.
+    /// Stores that a model has all equations that are declared so far. If the equations of a model
+    /// are stored more than once, the first time counts.
     pub fn list_all(&mut self, model: u32) -> Result<(), AllocError>
         ensures { OnOk result (self.new ≡ with_model self.old model self.old.equations) }
     {
         self.models.declare_all(model)
     }
 
-    /// Remembers the equations of a model. Of several lists of one model the first counts.
+    /// Stores that a model has these equations. If the equations of a model are stored more than
+    /// once, the first time counts.
     pub fn list(&mut self, model: u32, equations: Vec<u32>) -> Result<(), AllocError>
         ensures { OnOk result (self.new ≡ with_model self.old model equations.items) }
     {
         self.models.declare_listed(model, equations)
     }
 
-    /// Gives the data of a name: a set gets the elements, a parameter the values at them (GAMS
-    /// User's Guide, "Data Entry: Parameters, Scalars and Tables").
+    /// Writes the data `given` of the name `name` to the state. A tuple without a value becomes a
+    /// member of the set `name`; a tuple with a value gets it as the value of the parameter `name`
+    /// at this tuple (GAMS User's Guide, "Data Entry: Parameters, Scalars and Tables"). The error
+    /// is out of memory.
     pub fn give(
         &mut self,
         alloc: Global,
@@ -298,21 +314,23 @@ impl<F: ExactField> Known<F> {
         put_data(alloc, &mut self.store, name, given)
     }
 
-    /// Removes all data of a name.
+    /// Removes all data of a name: the members of a set, or the values of a parameter. The error is
+    /// out of memory.
     pub fn take_out(&mut self, alloc: Global, name: u32) -> Result<(), AllocError>
         ensures { OnOk result (self.new ≡ without_data self.old name) }
     {
         take_out_data(alloc, &mut self.store, name)
     }
 
-    /// Remembers that the labels of a set are given in another order than that of all labels.
+    /// Stores that a set is not ordered, since its labels are given in another order than that in
+    /// which labels first occur in the program.
     pub fn set_unordered(&mut self, set: u32)
         ensures { self.new ≡ with_unordered self.old set }
     {
         self.unordered.set(set);
     }
 
-    /// Remembers that a statement defines an equation.
+    /// Stores that an equation is defined.
     pub fn define(&mut self, equation: u32)
         ensures { self.new ≡ with_definition self.old equation }
     {

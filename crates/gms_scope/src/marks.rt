@@ -1,11 +1,11 @@
-//! A mark for each name of a program, by its number.
+//! Marks of the names of a program.
 ghost use Rattle.std.specs.Prelude.{◌≡◌, false, true, replicate, slice_set, IfOk};
 ghost use Rattle.gms_scope.specs.Facts.{marked};
 
 use std::alloc::{AllocError, Global};
 use std::marker::Model;
 
-/// A mark for each name of a program, by its number.
+/// A mark for each name of a program, by the number of the name: whether the name is marked.
 #[derive(Drop)]
 pub struct Marks {
     marks: Vec<bool>,
@@ -20,7 +20,8 @@ impl Model for Marks {
 }
 
 impl Marks {
-    /// `names` names, none of which is marked.
+    /// Marks for the names 0 to `names - 1` of a program, none of which is marked. The error is out
+    /// of memory.
     pub fn new(alloc: Global, names: u32) -> Result<Marks, AllocError>
         ensures { IfOk result (λ marks. marks ≡ replicate names false) }
     {
@@ -31,7 +32,7 @@ impl Marks {
         Ok(Marks { marks })
     }
 
-    /// Marks a name, if the program has it.
+    /// Marks a name. The call changes nothing if the program does not have the name.
     pub fn set(&mut self, name: u32)
         ensures { self.new ≡ slice_set self.old name true }
     {
@@ -41,7 +42,7 @@ impl Marks {
         }
     }
 
-    /// Whether a name is marked.
+    /// Whether a name is marked; false if the program does not have the name.
     pub fn is_set(&self, name: u32) -> bool
         ensures { result ≡ marked self.now name }
     {

@@ -1,4 +1,4 @@
-//! Models with their equations, and how many of them are known to be defined.
+//! Models with their equations, and how many of a model's equations are known to be defined.
 ghost use Rattle.std.specs.Prelude.{◌≡◌, ◌≤◌, ◌<◌, ◌⊎◌, ◌++◌, ◌∷◌, ℕ, [], List, Bool, false, true, not, length, slice_set, take, IfOk, OnOk};
 ghost use Rattle.std.specs.List.{list_any};
 ghost use Rattle.gms_scope.specs.Facts.{declared_equations, is_missing, model_entry};
@@ -8,11 +8,12 @@ ghost use Rattle.gms_scope.specs.Order.{order_of};
 use crate::marks::Marks;
 use std::alloc::{AllocError, Global};
 
-/// The equations of a model.
+/// The equations of a model: all that are declared before the model, or those that its statement
+/// lists.
 pub enum Equations {
-    /// The first of the declared ones; how many.
+    /// This number of the first declared equations of the program.
     All(usize),
-    /// The listed ones.
+    /// The equations that the model statement lists.
     Listed(Vec<u32>),
 }
 
@@ -27,7 +28,7 @@ impl Drop for Equations {
 }
 
 impl Equations {
-    /// The equations, where `declared` are all that are declared.
+    /// The equations of a model, where `declared` are all declared equations, in order.
     fn within<'a>(&'a self, declared: &'a [u32]) -> &'a [u32]
         ensures { result.now ≡ equations_within declared.now self.now }
     {
@@ -49,13 +50,14 @@ fn first_of(equations: &[u32], count: usize) -> &[u32]
     }
 }
 
-/// A model that is declared.
+/// A declaration of a model, with the equations of the model.
 pub struct Model {
-    /// The name, by its number.
+    /// The number of the model's name.
     pub name: u32,
-    /// Its equations.
+    /// The equations of the model.
     pub equations: Equations,
-    /// How many of the first equations are known to be defined. A defined equation stays so.
+    /// How many equations at the start of the model's list are known to be defined. They remain
+    /// defined, so a later check begins after them.
     pub defined: usize,
 }
 
@@ -70,13 +72,15 @@ impl Drop for Model {
     }
 }
 
-/// The models of a program, and the equations that are declared, in order.
+/// The declarations of models in a program, and the names that are declared as equations.
 pub struct Models {
-    /// The names that are declared as equations, in order.
+    /// The names that are declared as equations, by their numbers, in the order of their
+    /// declarations.
     pub equations: Vec<u32>,
-    /// The models, in order, repeated for each declaration.
+    /// One entry for each declaration of a model, in the order of the declarations.
     pub models: Vec<Model>,
-    /// By the number of a name: the place of its first model, plus 1; 0 if it is none.
+    /// For each name of the program, by its number: 1 plus the index in `models` of the first entry
+    /// with this name; 0 if no entry has the name.
     pub places: Vec<usize>,
 }
 
@@ -92,7 +96,8 @@ impl Drop for Models {
 }
 
 impl Models {
-    /// No models, of `names` names.
+    /// No models and no equations, for a program with the names 0 to `names - 1`. The error is out
+    /// of memory.
     pub fn new(alloc: Global, names: u32) -> Result<Models, AllocError>
         ensures { IfOk result (λ models. AreModelsListed models × (models.equations.items ≡ []) × (models.models.items ≡ []) ×
             (length models.places.items ≡ names)) }
@@ -110,7 +115,7 @@ impl Models {
 }
 
 impl Models {
-    /// Remembers an equation that is declared.
+    /// Appends an equation to the declared equations. The error is out of memory.
     pub fn declare_equation(&mut self, equation: u32) -> Result<(), AllocError>
         requires { AreModelsListed self.old }
         ensures listed { AreModelsListed self.new }
@@ -123,7 +128,8 @@ impl Models {
         Ok(())
     }
 
-    /// Remembers a model of all equations that are declared before.
+    /// Appends a declaration of the model `name`, whose equations are all that are declared so far.
+    /// The call changes nothing if the program does not have the name. The error is out of memory.
     pub fn declare_all(&mut self, name: u32) -> Result<(), AllocError>
         requires { AreModelsListed self.old }
         ensures listed { AreModelsListed self.new }
@@ -136,7 +142,8 @@ impl Models {
         self.declare(name, Equations::All(count))
     }
 
-    /// Remembers a model of these equations.
+    /// Appends a declaration of the model `name`, whose equations are `equations`. The call changes
+    /// nothing if the program does not have the name. The error is out of memory.
     pub fn declare_listed(&mut self, name: u32, equations: Vec<u32>) -> Result<(), AllocError>
         requires { AreModelsListed self.old }
         ensures listed { AreModelsListed self.new }
@@ -148,7 +155,7 @@ impl Models {
         self.declare(name, Equations::Listed(equations))
     }
 
-    /// Remembers a model.
+    /// Appends a model with these equations.
     fn declare(&mut self, name: u32, equations: Equations) -> Result<(), AllocError>
         requires listed { AreModelsListed self.old }
         requires there { AreEquationsDeclared self.old.equations.items equations }
@@ -176,7 +183,10 @@ impl Models {
 }
 
 impl Models {
-    /// Whether all equations of a model are defined. The result is remembered.
+    /// Whether all equations of a model, by its first declaration, are defined, where `defined`
+    /// marks the defined ones; true for a name without a model. The call stores with the model how
+    /// many equations at the start of its list are defined, so that the next call begins after
+    /// them.
     pub fn all_defined(&mut self, model: u32, defined: &Marks) -> bool
         requires listed { AreModelsListed self.old }
         requires counted { AreModelsCounted defined.now self.old }
@@ -196,7 +206,7 @@ impl Models {
         all
     }
 
-    /// The place of the first model of a name, plus 1; 0 if it is none.
+    /// The index of the first model of a name, plus 1; 0 if it has none.
     fn order(&self, model: u32) -> usize
         requires { AreModelsListed self.now }
         ensures { result ≡ order_of (model_names self.now.models.items) model }
@@ -207,7 +217,7 @@ impl Models {
         }
     }
 
-    /// How many of the first equations of the model at a place are defined, and whether all are.
+    /// How many first equations of the model at the index `place` are defined, and whether all are.
     fn recount(&self, place: usize, defined: &Marks) -> (usize, bool)
         requires there { place < length self.now.models.items }
         requires counted { AreModelsCounted defined.now self.now }
@@ -221,7 +231,7 @@ impl Models {
         (count, count == equations.len())
     }
 
-    /// Remembers how many of the first equations of the model at a place are defined.
+    /// Stores how many first equations of the model at the index `place` are defined.
     fn set_count(&mut self, place: usize, count: usize)
         requires { place < length self.old.models.items }
         ensures models { self.new.models.items ≡ slice_set self.old.models.items place (recounted (model_at self.old.models.items place) count) }

@@ -6,27 +6,35 @@ ghost use Rattle.gms_scope.specs.Order.{IsOrder, IsNodeStep, entries_of_nodes, e
 
 use std::alloc::{AllocError, Global};
 
-/// A name that is declared. Its place is the number of nodes before it.
+/// One declaration of a name. The place of a node is its index in the list of nodes, from 0.
+///
+/// A name is directly below its domain set, the set in its domain: after `set j(i);` the set `j` is
+/// below the set `i`, and `i` is above `j`.
 #[derive(Clone, Copy)]
 pub struct Node {
-    /// The name, by its number.
+    /// The number of the name that is declared.
     pub name: u32,
-    /// The set that it is directly below, if any.
+    /// The domain set of the name, by its number: the set that the name is directly below. `None`
+    /// if the name is below no set.
     pub below: Option<u32>,
-    /// How many sets it is below.
+    /// How many sets are above the name: its domain set, the domain set of that set, and so on.
     pub depth: usize,
-    /// The place of the set that it is directly below, or its own.
+    /// The place, which is the index in the list of nodes, of the node that declares the domain set
+    /// of the name; this node's own place if the name has no domain set.
     pub above: usize,
-    /// The place of a set farther above, by which the one at a place is found in a few steps, or
-    /// its own.
+    /// The place, which is the index in the list of nodes, of a node one or more steps above this
+    /// node, each step from a name to its domain set; this node's own place if no node is above it.
+    /// A search that goes up from this node takes all these steps at once.
     pub far: usize,
 }
 
-/// The names that are declared, in order.
+/// The declarations of names in a program, in order. They tell which names are below which sets, by
+/// the sets in their domains.
 pub struct Order {
-    /// The names that are declared, in order, repeated for each declaration.
+    /// One node for each declaration of a name, in the order of the declarations.
     pub nodes: Vec<Node>,
-    /// By the number of a name: the place of its first node, plus 1; 0 if nothing declares it.
+    /// For each name of the program, by its number: 1 plus the index in `nodes` of the first node
+    /// that declares the name; 0 if no node does.
     pub first: Vec<usize>,
 }
 
@@ -38,7 +46,7 @@ impl Drop for Order {
 }
 
 impl Order {
-    /// `names` names, none of which is declared.
+    /// No declarations, for a program with the names 0 to `names - 1`. The error is out of memory.
     pub fn new(alloc: Global, names: u32) -> Result<Order, AllocError>
         ensures { IfOk result (λ order. IsOrder order × (order.nodes.items ≡ []) × (length order.first.items ≡ names)) }
     {
@@ -81,8 +89,9 @@ impl Order {
         }
     }
 
-    /// Puts a name last among those that are declared, if the program has it. If a name above is
-    /// declared, this one is put below it.
+    /// Appends a declaration of the name `name`. Its domain set is `above`, if that set is
+    /// declared; otherwise it has no domain set. The call changes nothing if the program does not
+    /// have the name. The error is out of memory.
     pub fn declare(&mut self, name: u32, above: Option<u32>) -> Result<(), AllocError>
         requires { IsOrder self.old }
         ensures order { IsOrder self.new }
@@ -103,7 +112,8 @@ impl Order {
         Ok(())
     }
 
-    /// The node of a name that is put last, below another name, if there is one and it is declared.
+    /// The node of a declaration that is appended: directly below the set `above`, if that is
+    /// declared, and otherwise below none.
     fn new_node(&self, name: u32, above: Option<u32>) -> Node
         requires { IsOrder self.now }
         ensures entry { entry_of_node result ≡ (name, among (entries_of_nodes self.now.nodes.items) above) }
@@ -149,7 +159,8 @@ impl Order {
         if step == next { far.far } else { above }
     }
 
-    /// Whether a name is declared, and before another.
+    /// Whether the name `name` is declared before the name `other`, by the first declaration of
+    /// each. True if `name` alone is declared, and false if `name` is not declared.
     pub fn is_before(&self, name: u32, other: u32) -> bool
         requires { IsOrder self.now }
         ensures { result ≡ is_met_before (names_of_nodes self.now.nodes.items) name other }
@@ -159,7 +170,8 @@ impl Order {
         order > 0 && (others == 0 || order < others)
     }
 
-    /// Whether a name is below another, or is it.
+    /// Whether the set `name` is the set `other`, or reaches it by steps from a set to its domain
+    /// set.
     pub fn is_below(&self, name: u32, other: u32) -> bool
         requires { IsOrder self.now }
         ensures { result ≡ is_below_within (length self.now.nodes.items) (above_of (entries_of_nodes self.now.nodes.items)) name other }

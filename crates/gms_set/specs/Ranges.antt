@@ -22,11 +22,12 @@ text_before_digits label = take (text_length label) label
 abbrev pub digits_of : List ℕ → List ℕ
 digits_of label = drop (text_length label) label
 
--- the number of a label
+-- the number that the digits at the end of a label mean
 abbrev pub number_in_label : List ℕ → ℕ
 number_in_label label = digits_value 10 (digits_of label)
 
--- whether digits begin with a 0 and are more than one, so that their width counts
+-- whether a number's digits begin with a 0 and are more than one: the members of a range then keep
+-- their width
 abbrev pub is_padded : List ℕ → Bool
 is_padded digits = nat_lt 1 (length digits) && get_or digits 0 0 == 48
 
@@ -34,40 +35,43 @@ is_padded digits = nat_lt 1 (length digits) && get_or digits 0 0 == 48
 abbrev pub is_numbered : List ℕ → Bool
 is_numbered label = nat_le 1 (length (digits_of label)) && nat_le (length (digits_of label)) 9
 
--- whether the digits of two labels fit: as wide as each other if the first are padded, otherwise
--- not padded
+-- whether the digits at the ends of two labels can be those of a range: if the first are padded
+-- with zeros, the last have the same length, and otherwise the last are not padded either
 abbrev pub go_together : List ℕ → List ℕ → Bool
 go_together first last = if is_padded first then length first == length last else not (is_padded last)
 
--- whether there are numbers from one to another, at most 65,536
+-- whether `first` is at most `last`, and there are at most 65,536 numbers from `first` to `last`
 abbrev pub is_short : ℕ → ℕ → Bool
 is_short first last = nat_le first last && nat_lt (last - first) 65536
 
--- whether `from*to` is a range: a common text, letter case ignored, with numbers that fit, and at
--- most 65,536 members
+-- whether `from*to` is a range: before the digits both labels have the same text, letter case
+-- ignored; each ends in 1 to 9 digits, padded with zeros alike (`go_together`); the second number
+-- is not less than the first, and the range has at most 65,536 members
 abbrev pub is_range : List ℕ → List ℕ → Bool
 is_range from to =
     str_eq_ignore_ascii_case (text_before_digits from) (text_before_digits to) && (is_numbered from && (is_numbered to && (go_together (digits_of from) (digits_of to) && is_short (number_in_label from) (number_in_label to))))
 
--- how many digits the members of a range have at least: as many as the first, if that one's are
--- padded
+-- the least number of digits of the members of a range, from the digits of the first: their number
+-- if they are padded with zeros, otherwise 0
 abbrev pub digit_width : List ℕ → ℕ
 digit_width digits = if is_padded digits then length digits else 0
 
--- a number in digits, with zeros before it up to this width
+-- the decimal digits of `n`, with zeros before them up to `width` characters
 abbrev pub padded_digits : ℕ → ℕ → List ℕ
 padded_digits width n = replicate (width - length (decimal n)) 48 ++ decimal n
 
--- the members of a range, in order, each with the text of the first
+-- the members of the range `from*to`, in order: the text of `from` before its digits, followed by
+-- each number
 abbrev pub members : List ℕ → List ℕ → List (List ℕ)
 members from to =
     map (λ n. text_before_digits from ++ padded_digits (digit_width (digits_of from)) n) (range_with_len (number_in_label from) (number_in_label to - number_in_label from + 1))
 
--- the fault of a range by itself, which has no place
+-- the fault of two labels that are no range; its place is not known here, and is line 0, column 0
 abbrev pub no_range : SetFault
 no_range = record { error = BadRange; at = record { line = 0; column = 0 } }
 
--- the error of a range is that it is none, or memory ran out
+-- a reported error of a range is right, where `range` is whether the two labels are one: they are
+-- none, and the error is that fault; or memory ran out
 abbrev pub IsRangeError : Bool → SetFaultOrMemory → Type 0
 IsRangeError range Memory = Unit {0}
 IsRangeError range (Fault fault) = (range ≡ false) × (fault ≡ no_range)

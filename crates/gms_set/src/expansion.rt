@@ -16,13 +16,14 @@ use gq_field::ExactField;
 use std::alloc::{AllocError, Global};
 use std::marker::Model;
 
-/// How many tuples the data of a symbol may have.
+/// How many tuples the data of a symbol may have at most.
 pub(crate) const MOST_TUPLES: usize = 1_048_576;
 
-/// The tuples that are given so far, each with its value. No tuple occurs twice.
+/// The tuples that the items of a data list gave so far, each with the value of its item. No tuple
+/// occurs twice.
 ///
-/// As long as each comes after the one before it, nothing more is kept; from the first that does
-/// not on, their set is.
+/// As long as each tuple is greater than the one before it, `seen` is `None`. From the first tuple
+/// that is not greater, `seen` is the set of all tuples so far.
 #[derive(Drop)]
 pub struct Expansion<F> {
     given: Vec<(Tuple, Option<Ext<F>>)>,
@@ -42,7 +43,7 @@ impl<F> Model for Expansion<F> {
 }
 
 impl<F: ExactField> Expansion<F> {
-    /// No tuples.
+    /// The expansion before the first item: no tuples.
     pub fn new(alloc: Global) -> Expansion<F>
         ensures { result ≡ [] }
     {
@@ -52,7 +53,8 @@ impl<F: ExactField> Expansion<F> {
         }
     }
 
-    /// The tuples with their values.
+    /// The tuples in the order of the data, each with the value of its item, or `None` if the item
+    /// gives no value.
     pub fn into_given(self) -> Vec<(Tuple, Option<Ext<F>>)>
         ensures { result.items ≡ self }
     {
@@ -61,7 +63,10 @@ impl<F: ExactField> Expansion<F> {
         given
     }
 
-    /// Adds the tuples of an item. Answers its error if it has one.
+    /// Appends the tuples of an item, each with the item's value. `None` means that the item has no
+    /// error and all its tuples were appended. `Some` has the first error of the item; no contract
+    /// states which of its tuples were then appended. `domain` has the set of each position, `None`
+    /// for one that admits any label.
     pub fn add(
         &mut self,
         alloc: Global,
@@ -92,7 +97,8 @@ impl<F: ExactField> Expansion<F> {
         }
     }
 
-    /// Adds the tuples of the product with a value. False if one is given twice.
+    /// Appends the tuples of a product, each with this value. The result is false if one of them
+    /// occurs twice.
     fn add_product(
         &mut self,
         alloc: Global,
@@ -116,7 +122,7 @@ impl<F: ExactField> Expansion<F> {
         Ok(true)
     }
 
-    /// Adds a tuple with a value. False if it was given already.
+    /// Appends a tuple with this value. The result is false if it occurred before.
     fn add_tuple(
         &mut self,
         alloc: Global,

@@ -7,7 +7,7 @@ use gms_labels::Place;
 use std::alloc::{AllocError, AllocFailed};
 use thiserror::Error;
 
-/// An error of a data list.
+/// Why a data list has no tuples.
 #[derive(Clone, Copy, Debug, Error)]
 pub enum SetError {
     /// Two labels that are not a range, as `a3*a1`.
@@ -25,7 +25,7 @@ pub enum SetError {
 }
 
 impl SetError {
-    /// The number of the error.
+    /// The number of this error in a message.
     pub fn code(self) -> u8
         ensures { result ≡ set_error_code self }
     {
@@ -37,7 +37,7 @@ impl SetError {
         }
     }
 
-    /// The name of the error.
+    /// The name of this error in a message.
     pub fn name(self) -> &'static str
         ensures { result.now ≡ set_error_name self }
     {
@@ -54,13 +54,14 @@ impl SetError {
 #[derive(Clone, Copy, Debug, Error)]
 #[error("{at}: {code} {name}: {error}", code = .error.code(), name = .error.name())]
 pub struct SetFault {
-    /// The error.
+    /// Which error of a data list it is.
     pub error: SetError,
-    /// The place of the item; line 0 and column 0 for a range by itself.
+    /// The place of the item with the error. A fault of the function `range` has line 0 and column
+    /// 0, since no item is read there.
     pub at: Place,
 }
 
-/// A fault of a data list, or out of memory.
+/// Why a data list or a range was refused: an error and its place, or out of memory.
 #[derive(Clone, Copy, Debug, Error)]
 pub enum SetFaultOrMemory {
     /// Out of memory.

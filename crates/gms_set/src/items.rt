@@ -11,14 +11,16 @@ use gq_extended::Ext;
 use gq_field::ExactField;
 use std::alloc::Global;
 
-/// The tuples that the items give, in the order of the data, each with the value of its item.
+/// The tuples that the items give, in the order of the data, each with the value of its item, or
+/// `None` if the item gives no value. `domain` has the set of each position, `None` for one that
+/// admits any label.
 ///
-/// The item `(a1*a3).x 5` gives three tuples, the last position fastest. The fault is that of the
-/// first item that has one: a label that the set of its position does not have, then a range that
-/// is none, then the 1,048,577th tuple, then a tuple that is given twice. A position without a set
-/// admits any label. Every item has one list of labels for each position, and there are at most ten
-/// positions, whose sets are one-dimensional. GAMS User's Guide, "Set Definition", "Data Entry:
-/// Parameters, Scalars and Tables".
+/// The item `(a1*a3).x 5` gives three tuples; the last position varies fastest. The fault is that
+/// of the first item with an error. Of several errors of that item it is the first in this order: a
+/// label that the set of its position does not have; two labels that are no range; more than
+/// 1,048,576 tuples, with those of the items before; a tuple that occurs twice. Every item has one
+/// list of labels for each position, and there are at most ten positions. GAMS User's Guide, "Set
+/// Definition", "Data Entry: Parameters, Scalars and Tables".
 pub fn expand<F: ExactField>(
     alloc: Global,
     items: &[Item<F>],

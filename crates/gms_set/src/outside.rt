@@ -11,7 +11,9 @@ use gms_tuple::Tuple;
 use gq_field::ExactField;
 use std::alloc::{AllocError, Global};
 
-/// Whether some position has a label that is not in its set.
+/// Whether some position of an item has a label that is no member of the set of the position.
+/// `parts` are the labels of each position, and `domain` has the set of each, `None` for one that
+/// admits any label.
 pub fn has_outside<F: ExactField>(
     alloc: Global,
     store: &Store<F>,

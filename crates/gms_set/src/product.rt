@@ -1,4 +1,4 @@
-//! The tuples that have at each position one of the labels there.
+//! The tuples that have at each position one of the labels that an item lists for it.
 ghost use Rattle.std.specs.Prelude.{◌≡◌, ◌≤◌, ◌<◌, ◌^◌, ◌-◌, min, Some, IfOk, length, slice_get};
 ghost use Rattle.gms_tuple.specs.Products.{tuple_product};
 
@@ -6,7 +6,8 @@ use gms_ast::Sequence;
 use gms_tuple::Tuple;
 use std::alloc::{AllocError, Global};
 
-/// How many tuples have at each position one of the labels there, at most the greatest `usize`.
+/// The number of tuples with one of the listed labels at each position, or the greatest `usize` if
+/// there are more. `parts` are the labels that an item lists for each position.
 pub fn count(parts: &[Sequence<u32>]) -> usize
     ensures { result ≡ min (length (tuple_product parts.now)) (2 ^ 64 - 1) }
 {
@@ -17,7 +18,9 @@ pub fn count(parts: &[Sequence<u32>]) -> usize
     count
 }
 
-/// The tuple at a place of the product.
+/// The tuple at the index `place`, from 0, among the `count` tuples with one of the listed labels
+/// at each position; the last position varies fastest. `parts` are the labels that an item lists
+/// for each position.
 pub fn tuple_at(
     alloc: Global,
     parts: &[Sequence<u32>],

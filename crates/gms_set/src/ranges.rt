@@ -16,15 +16,16 @@ const MOST_MEMBERS: u32 = 65_536;
 /// How many digits the number of a label may have.
 const MOST_DIGITS: usize = 9;
 
-/// The members of the range `from*to`, in order: the text of `from` with each number from that of
-/// `from` to that of `to`.
+/// The members of the range `from*to`, in order: the text of `from` before its digits, followed by
+/// each number from that of `from` to that of `to`. The number of a label is that of the digits in
+/// which the label ends.
 ///
 /// There is no range in these cases: the texts before the digits differ, letter case ignored; a
-/// label ends in no digits or in more than nine; the second number is less, or there would be more
-/// than 65,536 members; the first number is written with zeros before it and the second with
-/// another number of digits, or the second alone with zeros. Members keep the width of a first
-/// number with zeros before it. The fault is then BadRange at line 0 and column 0. GAMS User's
-/// Guide, "Set Definition".
+/// label ends in no digits or in more than nine; the number of `to` is less than that of `from`, or
+/// there would be more than 65,536 members; the number of `from` is written with zeros before it
+/// and that of `to` with another number of digits, or that of `to` alone is written with zeros
+/// before it. The fault is then BadRange at line 0 and column 0. If the number of `from` is written
+/// with zeros before it, all members have as many digits. GAMS User's Guide, "Set Definition".
 pub fn range(alloc: Global, from: &str, to: &str) -> Result<Vec<String>, SetFaultOrMemory>
     ensures members { IfOk result (λ labels. (is_range from.now to.now ≡ true) × (map string_bytes labels.items ≡ members from.now to.now)) }
     ensures fault { IfErr result (IsRangeError (is_range from.now to.now)) }
@@ -38,7 +39,7 @@ pub fn range(alloc: Global, from: &str, to: &str) -> Result<Vec<String>, SetFaul
     }
 }
 
-/// The first number of a range, and how many it has.
+/// The first number of a range, and how many numbers it has; `None` if the labels are no range.
 fn numbers(from: &str, to: &str) -> Option<(u32, u32)>
     ensures value { result ≡ (if is_range from.now to.now then Some
         (number_in_label from.now, number_in_label to.now - number_in_label from.now + 1) else None) }
@@ -58,7 +59,7 @@ fn numbers(from: &str, to: &str) -> Option<(u32, u32)>
     }
 }
 
-/// `count` labels, with the text of this one and the numbers from the first on.
+/// The labels with the text of `from` and `count` numbers from `first` on.
 fn labels(alloc: Global, from: &str, first: u32, count: u32) -> Result<Vec<String>, AllocError>
     requires within_bound { first + count ≤ 2 ^ 32 }
     ensures { IfOk result (λ labels. map string_bytes labels.items

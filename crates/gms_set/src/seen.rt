@@ -1,4 +1,4 @@
-//! Which tuples were given already.
+//! Which tuples occurred before in the data.
 ghost use Rattle.std.specs.Prelude.{◌≡◌, ◌++◌, ◌∷◌, [], ℕ, List, false, not, IfOk, IsTrue, OnErr};
 ghost use Rattle.gms_tuple.specs.TupleOrder.{IsOrdered};
 ghost use Rattle.gms_tuple.specs.TupleSet.{has};
@@ -10,10 +10,12 @@ use gq_extended::Ext;
 use std::alloc::{AllocError, Global};
 use std::cmp::Ordering;
 
-/// Whether a tuple is new among those that are given. From then on it is one of them.
+/// Whether a tuple is new, that is, none of those in `given`. If it is new, `seen` afterwards
+/// describes the tuples in `given`, followed by this one. If it is not, or memory runs out, `seen`
+/// describes those in `given` alone.
 ///
-/// A tuple that comes after all others is new. From the first that does not on, the set of the
-/// given tuples is kept.
+/// As long as each of the tuples is greater than all before it, `seen` is `None`. From the first
+/// tuple that is not greater, `seen` is the set of the tuples.
 pub fn see<F>(
     alloc: Global,
     seen: &mut Option<TupleSet>,

@@ -19,16 +19,18 @@ use Rattle.gms_store.specs.declared.kind.SymbolKind.TheVariants as kind
 use Rattle.gms_store.specs.declared.settings.Settings.{Settings}
 use Rattle.gms_store.specs.State.{Content, undeclared, alias_of, set_of, parameter_of, variable_of, equation_of, model_with, Symbol, State, with_content, no_symbol, symbol_at, base_of}
 
--- the sets of a domain, by the numbers of their names
+-- the domain that is written in a declaration, with each set by the number of its name
 abbrev pub names_of : List (Option Named) → List (Option ℕ)
 names_of domain = map (λ position. option_map (λ (named : Named). named.name) position) domain
 
--- the positions of a name: a set without a written domain has one, of any label
+-- the domain of a name that is declared by this kind of declaration with this written domain: a set
+-- without a written domain has one position, which admits any label (None)
 abbrev pub positions_of : DeclKind → List (Option ℕ) → List (Option ℕ)
 positions_of Set [] = None ∷ []
 positions_of kind domain = domain
 
--- what a kind of declaration declares, with nothing given
+-- what a declaration of this kind declares, before any data: an empty set, a parameter without
+-- values, or a variable of the declared type or an equation without data
 abbrev pub content_of : DeclKind → Content
 content_of Set = set_of []
 content_of Parameter = parameter_of finite.empty
@@ -40,52 +42,54 @@ content_of Negative = variable_of type.Negative finite.empty
 content_of Discrete = variable_of type.Discrete finite.empty
 content_of Equation = equation_of finite.empty
 
--- the symbol that a declaration of a new name declares
+-- the symbol that a declaration of a new name declares, by its kind and its written domain
 abbrev pub symbol_of_kind : DeclKind → List (Option ℕ) → Symbol
 symbol_of_kind kind domain = record { domain = positions_of kind domain; content = content_of kind }
 
--- a variable whose type is free takes the type of a later declaration, with nothing given; nothing
--- else changes
+-- the content of a name that is declared once more, as `later`: a free variable becomes a variable
+-- of the later type, without data; any other content stays
 abbrev pub retyped : Content → Content → Content
 retyped (variable_of type.Free entries) (variable_of type none) = variable_of type none
 retyped content later = content
 
--- whether a content is that of a variable whose type is free
+-- whether a content is that of a free variable
 abbrev pub is_free : Content → Bool
 is_free (variable_of type.Free entries) = true
 is_free content = false
 
--- whether a content is that of another name of a set
+-- whether a content is that of an alias of a set
 abbrev pub is_alias : Content → Bool
 is_alias (alias_of base) = true
 is_alias content = false
 
--- whether a content is that of a set, or of another name of one
+-- whether a content is that of a set or of an alias of a set
 abbrev pub is_set : Content → Bool
 is_set (set_of members) = true
 is_set (alias_of base) = true
 is_set content = false
 
--- whether nothing is declared
+-- whether a content is that of a name that nothing declares
 abbrev pub is_undeclared : Content → Bool
 is_undeclared undeclared = true
 is_undeclared content = false
 
--- a symbol after one more declaration of its name: the first counts
+-- a symbol after one more declaration of its name, of this kind and written domain: a new name is
+-- declared, and a declared one keeps its first declaration, except that a free variable gets the
+-- type of the later one
 abbrev pub declared_again : DeclKind → List (Option ℕ) → Symbol → Symbol
 declared_again kind domain symbol =
     if is_undeclared symbol.content then symbol_of_kind kind domain else with_content symbol (retyped symbol.content (content_of kind))
 
--- the state with another symbol at the name of this number
+-- the state with this symbol at the name of this number
 abbrev pub put_at : State → ℕ → Symbol → State
 put_at state name symbol = record { symbols = set state.symbols name symbol; settings = state.settings }
 
--- the state after one more declaration of a name
+-- the state after a declaration of the name of this number, of this kind and written domain
 abbrev pub declare : DeclKind → List (Option ℕ) → State → ℕ → State
 declare kind domain state name =
     put_at state name (declared_again kind domain (symbol_at state name))
 
--- what a name is declared as; another name of a set is a set
+-- the kind of symbol that a content belongs to; an alias of a set is a set
 abbrev pub kind_in : Content → SymbolKind
 kind_in undeclared = kind.Undeclared
 kind_in (alias_of base) = kind.Set
@@ -95,35 +99,36 @@ kind_in (variable_of type entries) = kind.Variable
 kind_in (equation_of entries) = kind.Equation
 kind_in (model_with model solver) = kind.Model
 
--- another name of a set
+-- the symbol of an alias of the set whose name has the number `base`
 abbrev pub alias_symbol : ℕ → Symbol
 alias_symbol base = record { domain = []; content = alias_of base }
 
--- a model before any solve
+-- the symbol of a model before any solve
 abbrev pub model_symbol : Symbol
 model_symbol = record { domain = []; content = model_with 0 0 }
 
--- the state after a name was made another name of a set
+-- the state in which the name `new` is an alias of the set that the name `old` denotes
 abbrev pub join_name : State → ℕ → ℕ → State
 join_name state old new = put_at state new (alias_symbol (base_of state old))
 
--- whether the second name can be made another name of the first: that is a set, and the second is
--- new
+-- whether the name `new` can become an alias of the name `old`: `old` is a set, and `new` is not
+-- declared
 abbrev pub can_join : State → ℕ → ℕ → Bool
 can_join state old new = is_set (symbol_at state old).content && is_undeclared (symbol_at state new).content
 
--- the state after `alias (first, second)`: one is a set declared before, and the other is new. If
--- it is not so, which is an error of the program, a name that is not declared becomes a set
+-- the state after `alias (first, second)`: the one that is not declared becomes an alias of the
+-- other, which is a set. In any other case, an error of the program, each of the two that is not
+-- declared becomes a set
 abbrev pub declare_alias : State → ℕ → ℕ → State
 declare_alias state first second =
     if can_join state first second then join_name state first second else if can_join state second first then join_name state second first else declare Set [] (declare Set [] state first) second
 
--- the state after a model was declared: the first declaration of a name counts
+-- the state after a declaration of a name as a model: a name that is declared already stays
 abbrev pub declare_model : State → ℕ → State
 declare_model state name =
     if is_undeclared (symbol_at state name).content then put_at state name model_symbol else state
 
--- the state after models were declared
+-- the state after the declarations of these models, in order
 abbrev pub declare_models : State → List ModelDecl → State
 declare_models state models = fold (λ state (model : ModelDecl). declare_model state model.named.name) state models
 
@@ -136,19 +141,20 @@ abbrev pub blank_state : ℕ → State
 blank_state names = record { symbols = replicate names no_symbol; settings = first_settings }
 
 module _ {F : Type 0} where
-  -- the state after the declarations of one kind
+  -- the state after declarations of one kind, in order
   abbrev pub declare_each : DeclKind → State → List (Decl F) → State
   declare_each kind state items = fold (λ state (item : Decl F). declare kind (names_of item.domain) state item.named.name) state items
 
-  -- the state after what a statement declares
+  -- the state after an act: a declaration, an alias or a model statement declares its names, and
+  -- any other act changes nothing
   abbrev pub declared_by : State → Act F → State
   declared_by state (Declare kind items) = declare_each kind state items
   declared_by state (Alias first second) = declare_alias state first.name second.name
   declared_by state (Model models) = declare_models state models
   declared_by state act = state
 
-  -- the state after the first `count` of the names that a statement declares; the two names of an
-  -- invalid alias are declared as sets
+  -- the state after only the first `count` declarations of an act. Of an alias, the first name
+  -- alone is declared, as a set, if `count` is not 0; no model is declared
   abbrev pub declared_first : ℕ → State → Act F → State
   declared_first count state (Declare kind items) = declare_each kind state (take count items)
   declared_first count state (Alias first second) = if count == 0 then state else declare Set [] state first.name
@@ -158,6 +164,6 @@ module _ {F : Type 0} where
   abbrev pub declared_by_all : State → List (Stmt F) → State
   declared_by_all state statements = fold (λ state (statement : Stmt F). declared_by state statement.act) state statements
 
-  -- the state after all declarations of a program, with nothing given
+  -- the state after all declarations of a program, before any data
   abbrev pub declared_state : Program F → State
   declared_state program = declared_by_all (blank_state (length program.names)) program.statements.items

@@ -4,17 +4,18 @@ use Rattle.std.specs.Prelude.{List, [], ◌∷◌, if◌then◌else◌}
 use Rattle.gms_store.specs.State.{Symbol, State}
 use Rattle.gms_store.specs.Declarations.{is_undeclared}
 
--- one symbol, or another if that is declared
+-- the symbol `other` if it is declared, otherwise `symbol`
 abbrev pub chosen : Symbol → Symbol → Symbol
 chosen symbol other = if is_undeclared other.content then symbol else other
 
--- the symbols of a state, each replaced by the other state's symbol if the other declares it
+-- the symbols of a state, each replaced by the symbol at the same index in the list of others if
+-- that one is declared
 abbrev pub overlaid_symbols : List Symbol → List Symbol → List Symbol
 overlaid_symbols [] others = []
 overlaid_symbols (symbol ∷ symbols) [] = symbol ∷ symbols
 overlaid_symbols (symbol ∷ symbols) (other ∷ others) = chosen symbol other ∷ overlaid_symbols symbols others
 
--- the state in which each name that the other state declares is as there, and each other name is as
--- in this state; with the settings of the other
+-- one state over another: each name that the state `other` declares is as it is there, and each
+-- other name is as in `state`; the settings are those of `other`
 abbrev pub overlaid : State → State → State
 overlaid state other = record { symbols = overlaid_symbols state.symbols other.symbols; settings = other.settings }

@@ -1,4 +1,4 @@
--- The view of the store: the numbers that its values mean.
+-- The view of the store: its numbers of the field `F` are replaced by the numbers that they mean.
 use Rattle.std.specs.Prelude.{map, option_map}
 use Rattle.std.specs.FinMap as finite
 use Rattle.gq_number.specs.Number.{Number}
@@ -8,15 +8,17 @@ use Rattle.gms_store.specs.declared.content.Content as kept
 use Rattle.gms_store.specs.declared.content.Content.TheVariants as variant
 use Rattle.gms_store.specs.State.{Entries, Attributes, Content, undeclared, alias_of, set_of, parameter_of, variable_of, equation_of, model_with}
 
--- a finite map with each of its values mapped
+-- a finite map with `f` applied to each of its values
 abbrev pub entries_mapped : {X Y : Type 0} → (X → Y) → Entries X → Entries Y
 entries_mapped f entries = finite.from_entries (map (λ e. (e.0, f e.1)) (finite.entries entries))
 
 module _ {F : Type 0} (value : F → Number) where
+  -- the attributes of an element with the numbers that its values mean
   abbrev pub attributes_shown : own.Attributes F → Attributes
   attributes_shown a =
       record { lower = option_map value a.lower; upper = option_map value a.upper; level = value a.level; marginal = value a.marginal }
 
+  -- what a name denotes, with the numbers that its values mean
   abbrev pub content_shown : kept.Content F → Content
   content_shown variant.Undeclared = undeclared
   content_shown (variant.Alias base) = alias_of base

@@ -1,4 +1,4 @@
-//! What an element of a variable or an equation has.
+//! The attributes of an element of a variable or an equation.
 ghost use Rattle.std.specs.Prelude.{◌≡◌, option_map};
 ghost use Rattle.gms_store.specs.Shown.{attributes_shown};
 ghost use Rattle.gms_store.specs.State.{unbounded, absent_variable, same_attributes, same_number, same_bound};
@@ -7,23 +7,22 @@ use crate::kind::VariableType;
 use gq_field::ExactField;
 use std::cmp::Ordering;
 
-/// What an element of a variable or an equation has: its bounds, its level and its marginal (GAMS
-/// User's Guide, "Variables", "Equations").
+/// The attributes of one element of a variable or an equation: its bounds, its level and its
+/// marginal (GAMS User's Guide, "Variables", "Equations").
 #[derive(Clone, Copy)]
 pub struct Attributes<F> {
-    /// The lower bound, `None` where there is no finite one.
+    /// The lower bound of the element; `None` if there is no finite one.
     pub lower: Option<F>,
-    /// The upper bound, `None` where there is no finite one.
+    /// The upper bound of the element; `None` if there is no finite one.
     pub upper: Option<F>,
-    /// The level.
+    /// The level of the element, its `.l`.
     pub level: F,
-    /// The marginal.
+    /// The marginal of the element, its `.m`.
     pub marginal: F,
 }
 
 impl<F: ExactField> Attributes<F> {
-    /// No bounds, level 0 and marginal 0: the attributes of an element of an equation with nothing
-    /// given.
+    /// No bounds, level 0 and marginal 0: the attributes of an element of an equation without data.
     pub(crate) fn unbounded() -> Attributes<F>
         ensures { attributes_shown F.value result ≡ unbounded }
     {
@@ -35,7 +34,8 @@ impl<F: ExactField> Attributes<F> {
         }
     }
 
-    /// What an element of a variable has where nothing is given.
+    /// The attributes of an element without data of a variable of this type: the type's bounds,
+    /// level 0 and marginal 0.
     pub(crate) fn of_type(kind: VariableType) -> Attributes<F>
         ensures { attributes_shown F.value result ≡ absent_variable kind }
     {
@@ -55,7 +55,7 @@ impl<F: ExactField> Attributes<F> {
         }
     }
 
-    /// Whether both elements have the same.
+    /// Whether both elements have equal bounds, levels and marginals.
     pub(crate) fn is_same(self, other: Attributes<F>) -> bool
         ensures { result ≡ same_attributes (attributes_shown F.value self) (attributes_shown F.value other) }
     {
@@ -66,14 +66,14 @@ impl<F: ExactField> Attributes<F> {
     }
 }
 
-/// Whether two numbers are the same.
+/// Whether two numbers are equal.
 pub(crate) fn is_same_number<F: ExactField>(a: F, b: F) -> bool
     ensures { result ≡ same_number (F.value a) (F.value b) }
 {
     a.cmp_value(b) == Ordering::Equal
 }
 
-/// Whether two bounds are the same.
+/// Whether two bounds are equal, or both infinite (`None`).
 fn is_same_bound<F: ExactField>(a: Option<F>, b: Option<F>) -> bool
     ensures { result ≡ same_bound (option_map F.value a) (option_map F.value b) }
 {

@@ -11,7 +11,7 @@ use gq_field::ExactField;
 use std::alloc::{AllocError, Global};
 
 impl<F: ExactField> Store<F> {
-    /// Declares what the statements declare, in order.
+    /// Declares the names that the statements declare, in order.
     pub(crate) fn declare_all(
         &mut self,
         alloc: Global,
@@ -25,12 +25,12 @@ impl<F: ExactField> Store<F> {
         Ok(())
     }
 
-    /// Declares what a statement declares (GAMS User's Guide, "GAMS Programs", the statements that
-    /// declare).
+    /// Declares the names that a statement declares, without their data (GAMS User's Guide, "GAMS
+    /// Programs", the statements that declare).
     ///
-    /// A statement that is no declaration, no alias and no model changes nothing. It puts no data:
-    /// names are empty. If out of memory, the first of its names are declared, and the others are
-    /// not.
+    /// A statement that declares no names changes nothing. If out of memory, only a prefix of the
+    /// names of the statement is declared; of an alias statement the first name may be declared, as
+    /// a set.
     pub fn declare_act(&mut self, alloc: Global, act: &Act<F>) -> Result<(), AllocError>
         ensures ok { OnOk result (self.new ≡ declared_by self.old act.now) }
         ensures err { OnErr result ((count : ℕ) × (self.new ≡ declared_first count self.old act.now)) }
@@ -46,7 +46,7 @@ impl<F: ExactField> Store<F> {
         }
     }
 
-    /// Declares names of one kind. If out of memory, the first of them are declared.
+    /// Declares names of one kind. If out of memory, some first ones of them are declared.
     fn declare_each(
         &mut self,
         alloc: Global,
@@ -62,9 +62,12 @@ impl<F: ExactField> Store<F> {
         Ok(())
     }
 
-    /// Declares a name with its domain. Of several declarations of one name the first counts,
-    /// except for the type of a free variable (GAMS User's Guide, "Variables"). A name past the
-    /// last one of the program changes nothing. If out of memory, the state is as it was.
+    /// Declares the name with the number `name` as `kind`. `domain` has the set of each position of
+    /// the name, `None` for a position that admits any label.
+    ///
+    /// Of several declarations of one name the first counts, except that a later one may give a
+    /// type to a free variable (GAMS User's Guide, "Variables"). A number past the last name of the
+    /// program changes nothing. If out of memory, the state is unchanged.
     pub fn declare(
         &mut self,
         alloc: Global,
@@ -83,9 +86,10 @@ impl<F: ExactField> Store<F> {
         Ok(())
     }
 
-    /// Makes one of two names another name of the other, which is a set (GAMS User's Guide, "Set
-    /// Definition", aliases). If neither can be, both are declared as sets. If out of memory, none
-    /// of them is, or only the first.
+    /// Declares an alias (GAMS User's Guide, "Set Definition", aliases): if one of the two names is
+    /// not declared and the other is a set, the undeclared name becomes an alias of the set. In any
+    /// other case, each of the two that is not declared becomes a set. If out of memory, the state
+    /// is unchanged, or only the name `first` is declared, as a set.
     pub fn declare_alias(
         &mut self,
         alloc: Global,
@@ -107,15 +111,15 @@ impl<F: ExactField> Store<F> {
         self.declare(alloc, DeclKind::Set, &[], second)
     }
 
-    /// Whether the second name can be made another name of the first: that is a set, and the second
-    /// is new.
+    /// Whether the name `new` can become an alias of the name `old`: `old` is a set, and `new` is
+    /// not declared.
     fn can_join(&self, old: u32, new: u32) -> bool
         ensures { result ≡ can_join self.now old new }
     {
         self.is_set(old) && self.is_undeclared(new)
     }
 
-    /// Whether a name is that of a set, or another name of one.
+    /// Whether a name is that of a set or of an alias of one.
     fn is_set(&self, name: u32) -> bool
         ensures { result ≡ is_set (symbol_at self.now name).content }
     {
@@ -135,7 +139,7 @@ impl<F: ExactField> Store<F> {
         }
     }
 
-    /// Makes a name another name of a set.
+    /// Makes the name `new` an alias of the set that the name `old` denotes.
     fn join_name(&mut self, alloc: Global, old: u32, new: u32)
         ensures { self.new ≡ join_name self.old old new }
     {
@@ -152,8 +156,8 @@ impl<F: ExactField> Store<F> {
         }
     }
 
-    /// Declares a model (GAMS User's Guide, "Model and Solve Statements"). The first declaration of
-    /// a name counts.
+    /// Declares a name as a model (GAMS User's Guide, "Model and Solve Statements"). A name that is
+    /// already declared is unchanged.
     pub fn declare_model(&mut self, alloc: Global, name: u32)
         ensures { self.new ≡ declare_model self.old name }
     {
@@ -162,7 +166,7 @@ impl<F: ExactField> Store<F> {
         }
     }
 
-    /// Puts another symbol at a name.
+    /// Puts this symbol at a name.
     fn replace(&mut self, name: u32, symbol: Symbol<F>)
         ensures { self.new ≡ put_at self.old name symbol }
     {

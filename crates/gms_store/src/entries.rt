@@ -9,13 +9,13 @@ use gms_tuple::{Tuple, TupleSet};
 use std::alloc::{AllocError, Global};
 use std::marker::Model;
 
-/// A finite map from tuples, and the set of the tuples at which it has a value.
+/// A finite map from tuples to values, with the set of the tuples at which it has a value.
 pub struct Entries<X> {
     values: Values<X>,
     given: TupleSet,
 }
 
-// Written out, so that it is proved here alone, and not in each crate that lets one go.
+// Written out, so that it is proved here once, and not in each crate that drops such a value.
 impl<X: Drop> Drop for Entries<X> {
     fn drop(self) {
         let Self {
@@ -51,22 +51,22 @@ impl<X: Copy> Entries<X> {
         }
     }
 
-    /// The value at a tuple, if any.
+    /// The value at a tuple; `None` if the map has no value there.
     pub fn get(&self, t: &Tuple) -> Option<X>
         ensures { result ≡ finite.get self.now t.now }
     {
         self.values.get(t)
     }
 
-    /// The value at a tuple, if any. It is found sooner if the tuple has this place among those
-    /// with a value.
+    /// The value at a tuple; `None` if the map has no value there. `place` affects speed only: the
+    /// search is faster if it is the index, from 0, of the tuple among those that have a value.
     pub fn get_near(&self, t: &Tuple, place: usize) -> Option<X>
         ensures { result ≡ finite.get self.now t.now }
     {
         self.values.get_near(t, place)
     }
 
-    /// The tuples at which there is a value.
+    /// The tuples at which the map has a value, in the order of tuples.
     pub fn given(&self) -> &TupleSet
         ensures value { result.now ≡ finite.keys self.now }
         ensures ordered { IsOrdered result.now }
@@ -75,7 +75,8 @@ impl<X: Copy> Entries<X> {
         &self.given
     }
 
-    /// Puts a value at a tuple. If out of memory, the map is as it was.
+    /// Puts a value at a tuple, in place of the value there, if any. If out of memory, the map is
+    /// unchanged.
     pub fn insert(&mut self, alloc: Global, t: &Tuple, value: X) -> Result<(), AllocError>
         ensures ok { OnOk result (self.new ≡ finite.insert self.old t.now value) }
         ensures err { OnErr result (self.new ≡ self.old) }
@@ -93,8 +94,8 @@ impl<X: Copy> Entries<X> {
         }
     }
 
-    /// Puts a value at a tuple if it is to be kept, and else removes the value there. If out of
-    /// memory, the map is as it was.
+    /// Puts `value` at a tuple if `keep`, in place of the value there, if any. Otherwise removes
+    /// the value at the tuple, if any. If out of memory, the map is unchanged.
     pub fn write(
         &mut self,
         alloc: Global,
@@ -112,7 +113,7 @@ impl<X: Copy> Entries<X> {
         Ok(())
     }
 
-    /// Removes the value at a tuple, if any.
+    /// Removes the value at a tuple, if the map has one there.
     pub fn remove(&mut self, t: &Tuple)
         ensures { self.new ≡ finite.remove self.old t.now }
     {

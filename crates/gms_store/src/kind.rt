@@ -1,6 +1,6 @@
 //! What a name is declared as.
 
-/// What a name is declared as. A second name of a set, by `alias`, is a set.
+/// What a name is declared as. A name that `alias` declares is a set.
 #[derive(Clone, Copy, Debug, PartialEq, Eq)]
 pub enum SymbolKind {
     /// `set i;`
@@ -17,7 +17,7 @@ pub enum SymbolKind {
     Undeclared,
 }
 
-/// Of which type a variable is.
+/// The type of a variable, which sets its bounds before any are written.
 #[derive(Clone, Copy, Debug, PartialEq, Eq)]
 pub enum VariableType {
     /// `variable x;`: no bounds.

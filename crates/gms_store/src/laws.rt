@@ -8,8 +8,10 @@ ghost use Rattle.gms_store.specs.Frames.{Keeps};
 ghost use Rattle.gms_store.specs.Statuses.{model_number, model_text, solver_number};
 ghost use Rattle.gms_store.specs.declared.status.SolveStatus.{SolveStatus};
 
-/// What is read after a write: at the tuple what was written; at every other tuple of the name, and
-/// of every other name, what it was before. An alias is the same name as its set.
+/// What is read after a write: at the written tuple the data that were written, if the name is
+/// declared as the kind that has such data and the tuple has as many labels as its domain; at every
+/// other tuple of the name, and of every other name, the data from before the write. An alias
+/// counts as the same name as its set.
 pub fn write_laws()
     ensures value { (state : State) (name : ℕ) (t : List ℕ) (x : Extended) (entries : Entries Extended) →
         base_of state name < length state.symbols →
@@ -37,9 +39,9 @@ pub fn write_laws()
         has (members_of (after_membership state name t on) other) u ≡ has (members_of state other) u }
 {}
 
-/// What a write leaves unchanged: all other names, what each name denotes, its positions and the
-/// settings, and all other kinds of reading of the name itself: after a value all members,
-/// attributes and statuses, and so on.
+/// What a write to a name leaves unchanged: the data of all other names; of every name its domain
+/// and what it is an alias of; the settings; and of the written name itself the data of other
+/// kinds. For example, the write of a value leaves all members, attributes and statuses unchanged.
 pub fn frame_laws()
     ensures value { (state : State) (name : ℕ) (t : List ℕ) (x : Extended) → Keeps state (after_value state name t x) name }
     ensures value_leaves_members { (state : State) (name : ℕ) (t : List ℕ) (x : Extended) (other : ℕ) →
@@ -71,8 +73,8 @@ pub fn frame_laws()
         attributes_of (after_statuses state name model solver) other u ≡ attributes_of state other u }
 {}
 
-/// How a solve may end: the number of the model's status, and its text too, determine which of them
-/// it is, and no number is above 13.
+/// No two ways in which a solve may end have the same number of the model's status, or the same
+/// text of it. No number of a model's or a solver's status is above 13.
 pub fn status_laws()
     ensures one_number { (one other : SolveStatus) → model_number one ≡ model_number other → one ≡ other }
     ensures one_text { (one other : SolveStatus) → model_text one ≡ model_text other → one ≡ other }

@@ -1,27 +1,27 @@
 //! The settings that options change.
 
-/// The settings of a run, each by the word of its option.
+/// The settings of a run, each named as the option that sets it.
 ///
 /// `option limrow = 0, solprint = off;` sets two of them. GAMS User's Guide, "The Option
 /// Statement".
 #[derive(Clone, Copy, Debug, PartialEq, Eq)]
 pub struct Settings {
-    /// How many rows of each equation a solve lists.
+    /// The greatest number of rows that a listing shows of each equation for a solve.
     pub limrow: u32,
-    /// How many columns of each variable a solve lists.
+    /// The greatest number of columns that a listing shows of each variable for a solve.
     pub limcol: u32,
-    /// How many pivots a solver may take.
+    /// The greatest number of pivots that a solver may make in one solve.
     pub iterlim: u32,
-    /// How many decimals a display shows.
+    /// How many decimals, that is, digits after the point, a display shows of each number.
     pub decimals: u8,
-    /// Whether a solve lists its solution.
+    /// Whether a listing shows the solution that a solve finds.
     pub solprint: bool,
-    /// The solver, by its place among the solvers of the run.
+    /// Which solver solves the models: its index, from 0, in the list of the run's solvers.
     pub solver: u32,
 }
 
 impl Settings {
-    /// The settings that a run begins with.
+    /// The settings at the start of a run, before any option statement.
     pub const FIRST: Settings = Settings {
         limrow: 3,
         limcol: 3,

@@ -2,9 +2,9 @@
 ghost use Rattle.std.specs.Prelude.{◌≡◌};
 ghost use Rattle.gms_store.specs.Statuses.{model_number, model_text, solver_number, solver_text};
 
-/// How the last solve of a model ended. It has two numbers and two texts: the model's status,
-/// `m.modelstat`, and the solver's, `m.solvestat`. GAMS User's Guide, "GAMS Output", model status
-/// and solver status.
+/// How the last solve of a model ended. Each way has two numbers, each with a text: the model's
+/// status, `m.modelstat`, and the solver's status, `m.solvestat`. GAMS User's Guide, "GAMS Output",
+/// model status and solver status.
 #[derive(Clone, Copy, Debug, PartialEq, Eq)]
 pub enum SolveStatus {
     /// The model was not solved yet.
@@ -24,7 +24,7 @@ pub enum SolveStatus {
 }
 
 impl SolveStatus {
-    /// The number of the model's status; 0 before a solve.
+    /// The number of the model's status, `m.modelstat`; 0 before a solve.
     pub fn model_number(self) -> u8
         ensures { result ≡ model_number self }
     {
@@ -39,7 +39,7 @@ impl SolveStatus {
         }
     }
 
-    /// The number of the solver's status; 0 before a solve.
+    /// The number of the solver's status, `m.solvestat`; 0 before a solve.
     pub fn solver_number(self) -> u8
         ensures { result ≡ solver_number self }
     {
@@ -51,7 +51,7 @@ impl SolveStatus {
         }
     }
 
-    /// The text of the model's status, as a listing shows it after its number.
+    /// The text of the model's status, as a listing shows it after the number of this status.
     pub fn model_text(self) -> &'static str
         ensures { result.now ≡ model_text self }
     {
@@ -66,7 +66,7 @@ impl SolveStatus {
         }
     }
 
-    /// The text of the solver's status, as a listing shows it after its number.
+    /// The text of the solver's status, as a listing shows it after the number of this status.
     pub fn solver_text(self) -> &'static str
         ensures { result.now ≡ solver_text self }
     {

@@ -1,4 +1,4 @@
-//! The store: what is known of each name of a program, and the settings.
+//! The store: what each name of a program denotes, with its data, and the settings.
 ghost use Rattle.std.specs.Prelude.{◌≡◌, ◌<◌, ◌↔◌, ℕ, List, Bool, true, Some, None, [], length, not, option_map, IsTrue, OnOk, OnErr, IfOk};
 ghost use Rattle.gq_extended.specs.Meaning.{extended};
 ghost use Rattle.gms_tuple.specs.TupleOrder.{IsOrdered};
@@ -19,16 +19,18 @@ use gq_field::ExactField;
 use std::alloc::{AllocError, Global};
 use std::marker::Model;
 
-/// The state of a run. Its view is finite maps: from a set to its members, from a parameter and a
-/// tuple to a value, from a variable or an equation and a tuple to bounds, level and marginal, from
-/// a model to two statuses; and the settings.
+/// The state of a run: for each name its domain and what it denotes, and the settings. Contracts
+/// see it as finite maps: from a set to its members, from a parameter and a tuple to a value, from
+/// a variable or an equation and a tuple to bounds, level and marginal, from a model to two
+/// statuses.
 ///
-/// Names and labels are numbers in the two tables of the program. An alias denotes its set. Only
-/// entries that differ from an absent one are kept; an absent one reads as 0, or as the bounds of
-/// the variable's type. A name that the program does not have or that is of another kind reads as
-/// one with nothing given. A write to it, or at a tuple of another length than the domain, changes
-/// nothing; a checked program has none of these. If out of memory, the store is as it was, except
-/// that `declare_act` and `declare_alias` may have declared the first of their names.
+/// Names and labels are numbers, the indices in the two tables of the program. An alias denotes its
+/// set. An element without data has the value 0, or the level 0, the marginal 0 and the bounds of
+/// the variable's type; only entries that differ from these are stored. To read a name that the
+/// program does not have, or that is of another kind, is to read a name without data. To write to
+/// such a name, or at a tuple with another number of labels than the name has positions, changes
+/// nothing; a checked program does neither. If out of memory, the store is unchanged, except that
+/// `declare_act` and `declare_alias` may have declared some of their names.
 pub struct Store<F: ExactField> {
     pub(crate) symbols: Vec<Symbol<F>>,
     settings: Settings,
@@ -36,7 +38,7 @@ pub struct Store<F: ExactField> {
     none: TupleSet,
 }
 
-// Written out, so that it is proved here alone, and not in each crate that lets one go.
+// Written out, so that it is proved here once, and not in each crate that drops such a value.
 impl<F: ExactField> Drop for Store<F> {
     fn drop(self) {
         let Self {
@@ -63,7 +65,8 @@ impl<F: ExactField> Model for Store<F> {
 }
 
 impl<F: ExactField> Store<F> {
-    /// The state that the declarations of a program make: the declared names, with nothing given.
+    /// The state after all declarations of a program: each declared name, without data, and the
+    /// settings at the start of a run. The only error is out of memory.
     pub fn new(alloc: Global, program: &Program<F>) -> Result<Store<F>, AllocError>
         ensures { IfOk result (λ store. store ≡ declared_state program.now) }
     {
@@ -72,7 +75,8 @@ impl<F: ExactField> Store<F> {
         Ok(store)
     }
 
-    /// A state with `names` names, of which none is declared.
+    /// The state with `names` names, of which none is declared, and the settings at the start of a
+    /// run. The only error is out of memory.
     pub fn blank(alloc: Global, names: u32) -> Result<Store<F>, AllocError>
         ensures { IfOk result (λ store. store ≡ blank_state names) }
     {
@@ -88,7 +92,7 @@ impl<F: ExactField> Store<F> {
         })
     }
 
-    /// What a name is declared as. An alias is a set.
+    /// The kind that a name is declared as. For an alias this is a set.
     pub fn kind_of(&self, name: u32) -> SymbolKind
         ensures { result ≡ kind_in (symbol_at self.now name).content }
     {
@@ -98,7 +102,7 @@ impl<F: ExactField> Store<F> {
         }
     }
 
-    /// Whether a name is that of a variable whose type is free.
+    /// Whether a name is that of a variable of the type `Free`.
     pub fn is_free(&self, name: u32) -> bool
         ensures { result ≡ is_free (symbol_at self.now name).content }
     {
@@ -108,7 +112,7 @@ impl<F: ExactField> Store<F> {
         }
     }
 
-    /// Whether a name is another name of a set (GAMS User's Guide, "Set Definition", aliases).
+    /// Whether a name is an alias of a set (GAMS User's Guide, "Set Definition", aliases).
     pub fn is_alias(&self, name: u32) -> bool
         ensures { result ≡ is_alias (symbol_at self.now name).content }
     {
@@ -118,16 +122,17 @@ impl<F: ExactField> Store<F> {
         }
     }
 
-    /// The set of each declared position, `None` for any label. An alias has the positions of its
-    /// set.
+    /// The domain of a name: for each position the number of the set whose labels it admits, `None`
+    /// for a position that admits any label. The domain of an alias is that of its set.
     pub fn domain_of(&self, name: u32) -> &[Option<u32>]
         ensures { result.now ≡ (symbol_of self.now name).domain }
     {
         self.symbol(name).domain()
     }
 
-    /// The members of a set; the tuples of a parameter whose value is not 0; the tuples of a
-    /// variable or an equation whose bounds, level or marginal differ from those of an absent one.
+    /// The tuples of a name at which it has data, in the order of tuples: the members of a set; the
+    /// tuples at which the value of a parameter is not 0; the tuples at which the bounds, level or
+    /// marginal of a variable or an equation differ from those of an element without data.
     pub fn given(&self, name: u32) -> &TupleSet
         ensures value { result.now ≡ given_of self.now name }
         // A tuple is there exactly where its entry differs from an absent one.
@@ -146,7 +151,7 @@ impl<F: ExactField> Store<F> {
         }
     }
 
-    /// The number of the set of an alias. Every other name denotes itself.
+    /// The number of the set of which a name is an alias. If the name is no alias, its own number.
     pub fn base(&self, name: u32) -> u32
         ensures { result ≡ base_of self.now name }
     {
@@ -156,7 +161,8 @@ impl<F: ExactField> Store<F> {
         }
     }
 
-    /// What a name stands for: an alias for its set.
+    /// The symbol that a name stands for: that of the set of an alias, and otherwise the name's
+    /// own.
     fn symbol(&self, name: u32) -> &Symbol<F>
         ensures { result.now ≡ symbol_of self.now name }
     {
@@ -166,7 +172,7 @@ impl<F: ExactField> Store<F> {
         }
     }
 
-    /// The members of a set, in order.
+    /// The members of a set, in the order of tuples. There are none if the name is no set.
     pub fn members(&self, set: u32) -> &TupleSet
         ensures value { result.now ≡ members_of self.now set }
         ensures ordered { IsOrdered result.now }
@@ -180,14 +186,16 @@ impl<F: ExactField> Store<F> {
         }
     }
 
-    /// Whether a tuple is a member of a set.
+    /// Whether a tuple is a member of a set. False if the name `set` is no set.
     pub fn member(&self, set: u32, t: &Tuple) -> bool
         ensures { result ≡ has (members_of self.now set) t.now }
     {
         self.members(set).contains(t)
     }
 
-    /// Puts a tuple into a set, or takes it out.
+    /// Inserts a tuple into a set if `on`, and otherwise removes it from the set. A name of another
+    /// kind, or a tuple with another number of labels than the name has positions, changes nothing.
+    /// If out of memory, the state is unchanged.
     pub fn set_member(
         &mut self,
         alloc: Global,
@@ -206,22 +214,25 @@ impl<F: ExactField> Store<F> {
         Ok(())
     }
 
-    /// The value of a parameter at a tuple: 0 where none is given.
+    /// The value of a parameter at a tuple: 0 if there are no data at the tuple.
     pub fn value(&self, name: u32, t: &Tuple) -> Ext<F>
         ensures { extended F.value result ≡ value_of self.now name t.now }
     {
         self.symbol(name).value(t)
     }
 
-    /// The value of a parameter at a tuple: 0 if none is given. It is found sooner if the tuple has
-    /// this place among the given ones.
+    /// The value of a parameter at a tuple: 0 if there are no data at the tuple. `place` affects
+    /// speed only: the search is faster if it is the index, from 0, of the tuple among those with
+    /// data.
     pub fn value_near(&self, name: u32, t: &Tuple, place: usize) -> Ext<F>
         ensures { extended F.value result ≡ value_of self.now name t.now }
     {
         self.symbol(name).value_near(t, place)
     }
 
-    /// Puts the value of a parameter at a tuple.
+    /// Writes the value of a parameter at a tuple. A name of another kind, or a tuple with another
+    /// number of labels than the name has positions, changes nothing. If out of memory, the state
+    /// is unchanged.
     pub fn put(&mut self, alloc: Global, name: u32, t: &Tuple, v: Ext<F>) -> Result<(), AllocError>
         ensures ok { OnOk result (self.new ≡ after_value self.old name t.now (extended F.value v)) }
         ensures err { OnErr result (self.new ≡ self.old) }
@@ -234,50 +245,57 @@ impl<F: ExactField> Store<F> {
         Ok(())
     }
 
-    /// The bounds, the level and the marginal of an element: those of its type if nothing is given.
+    /// The bounds, the level and the marginal of a variable or an equation at a tuple. If there are
+    /// no data at the tuple, the level and the marginal are 0, the bounds of a variable are those
+    /// of its type, and an equation has no bounds.
     pub fn attributes(&self, name: u32, t: &Tuple) -> Attributes<F>
         ensures { attributes_shown F.value result ≡ attributes_of self.now name t.now }
     {
         self.symbol(name).attributes(t)
     }
 
-    /// The bounds, the level and the marginal of an element: those of its type if nothing is given.
-    /// They are found sooner if the element has this place among the given ones.
+    /// The bounds, the level and the marginal of a variable or an equation at a tuple. If there are
+    /// no data at the tuple, the level and the marginal are 0, the bounds of a variable are those
+    /// of its type, and an equation has no bounds. `place` affects speed only: the search is faster
+    /// if it is the index, from 0, of the tuple among those with data.
     pub fn attributes_near(&self, name: u32, t: &Tuple, place: usize) -> Attributes<F>
         ensures { attributes_shown F.value result ≡ attributes_of self.now name t.now }
     {
         self.symbol(name).attributes_near(t, place)
     }
 
-    /// The lower bound of an element, `None` where there is no finite one.
+    /// The lower bound of a variable or an equation at a tuple; `None` if it is minus infinity.
     pub fn lower(&self, name: u32, t: &Tuple) -> Option<F>
         ensures { option_map F.value result ≡ (attributes_of self.now name t.now).lower }
     {
         self.attributes(name, t).lower
     }
 
-    /// The upper bound of an element, `None` where there is no finite one.
+    /// The upper bound of a variable or an equation at a tuple; `None` if it is infinity.
     pub fn upper(&self, name: u32, t: &Tuple) -> Option<F>
         ensures { option_map F.value result ≡ (attributes_of self.now name t.now).upper }
     {
         self.attributes(name, t).upper
     }
 
-    /// The level of an element.
+    /// The level of a variable or an equation at a tuple; 0 if there are no data at the tuple.
     pub fn level(&self, name: u32, t: &Tuple) -> F
         ensures { F.value result ≡ (attributes_of self.now name t.now).level }
     {
         self.attributes(name, t).level
     }
 
-    /// The marginal of an element.
+    /// The marginal of a variable or an equation at a tuple; 0 if there are no data at the tuple.
     pub fn marginal(&self, name: u32, t: &Tuple) -> F
         ensures { F.value result ≡ (attributes_of self.now name t.now).marginal }
     {
         self.attributes(name, t).marginal
     }
 
-    /// Puts the lower bound of an element, `None` for no finite one.
+    /// Writes the lower bound of a variable or an equation at a tuple; `None` is minus infinity.
+    /// The other attributes at the tuple are unchanged. A name of another kind, or a tuple with
+    /// another number of labels than the name has positions, changes nothing. If out of memory, the
+    /// state is unchanged.
     pub fn put_lower(
         &mut self,
         alloc: Global,
@@ -294,7 +312,10 @@ impl<F: ExactField> Store<F> {
         self.put_attributes(alloc, name, t, new)
     }
 
-    /// Puts the upper bound of an element, `None` for no finite one.
+    /// Writes the upper bound of a variable or an equation at a tuple; `None` is infinity. The
+    /// other attributes at the tuple are unchanged. A name of another kind, or a tuple with another
+    /// number of labels than the name has positions, changes nothing. If out of memory, the state
+    /// is unchanged.
     pub fn put_upper(
         &mut self,
         alloc: Global,
@@ -311,7 +332,9 @@ impl<F: ExactField> Store<F> {
         self.put_attributes(alloc, name, t, new)
     }
 
-    /// Puts the level of an element.
+    /// Writes the level of a variable or an equation at a tuple. The other attributes at the tuple
+    /// are unchanged. A name of another kind, or a tuple with another number of labels than the
+    /// name has positions, changes nothing. If out of memory, the state is unchanged.
     pub fn put_level(&mut self, alloc: Global, name: u32, t: &Tuple, v: F) -> Result<(), AllocError>
         ensures ok { OnOk result
             (self.new ≡ after_attributes self.old name t.now (with_level (attributes_of self.old name t.now) (F.value v))) }
@@ -322,7 +345,9 @@ impl<F: ExactField> Store<F> {
         self.put_attributes(alloc, name, t, new)
     }
 
-    /// Puts the marginal of an element.
+    /// Writes the marginal of a variable or an equation at a tuple. The other attributes at the
+    /// tuple are unchanged. A name of another kind, or a tuple with another number of labels than
+    /// the name has positions, changes nothing. If out of memory, the state is unchanged.
     pub fn put_marginal(
         &mut self,
         alloc: Global,
@@ -339,7 +364,9 @@ impl<F: ExactField> Store<F> {
         self.put_attributes(alloc, name, t, new)
     }
 
-    /// Puts the bounds, the level and the marginal of an element.
+    /// Writes the bounds, the level and the marginal of a variable or an equation at a tuple. A
+    /// name of another kind, or a tuple with another number of labels than the name has positions,
+    /// changes nothing. If out of memory, the state is unchanged.
     pub fn put_attributes(
         &mut self,
         alloc: Global,
@@ -358,14 +385,16 @@ impl<F: ExactField> Store<F> {
         Ok(())
     }
 
-    /// The status of a model and that of its solver: 0 and 0 before a solve.
+    /// The two statuses of a model as numbers: the model's status, `.modelstat`, and then the
+    /// solver's, `.solvestat`. Both are 0 until a solve of the model, and if the name is no model.
     pub fn status(&self, model: u32) -> (u8, u8)
         ensures { result ≡ statuses_in (symbol_of self.now model).content }
     {
         self.symbol(model).statuses()
     }
 
-    /// Puts the status of a model and that of its solver.
+    /// Writes the two statuses of a model as numbers: `m` is the model's status, `.modelstat`, and
+    /// `s` the solver's, `.solvestat`. A name that is no model is unchanged.
     pub fn put_status(&mut self, model: u32, m: u8, s: u8)
         ensures { self.new ≡ after_statuses self.old model m s }
     {
@@ -376,24 +405,24 @@ impl<F: ExactField> Store<F> {
         }
     }
 
-    /// The settings.
+    /// The settings of the run: those at its start, or those that were last put in their place.
     pub fn settings(&self) -> Settings
         ensures { result ≡ self.now.settings }
     {
         self.settings
     }
 
-    /// Puts the settings.
+    /// Replaces the settings of the run by `s`.
     pub fn put_settings(&mut self, s: Settings)
         ensures { self.new ≡ with_settings self.old s }
     {
         self.settings = s;
     }
 
-    /// Puts another state over this one: each name that the other declares gets all that is given
-    /// of it there, and so do the settings. What the other does not declare stays (GAMS User's
-    /// Guide, "Save and Restart"). All of it is moved, and nothing copied, so that no memory is
-    /// requested.
+    /// Puts the state `other` over this one (GAMS User's Guide, "Save and Restart"). Each name that
+    /// `other` declares becomes what it is in `other`, with its data, and the settings become those
+    /// of `other`. A name that `other` does not declare is unchanged. The data are moved, not
+    /// copied, so no memory is requested.
     pub fn overlay(&mut self, other: Store<F>)
         ensures { self.new ≡ overlaid self.old other }
     {
@@ -403,7 +432,7 @@ impl<F: ExactField> Store<F> {
     }
 }
 
-/// Moves symbols to the places of others, where they are declared.
+/// Replaces each symbol by the other at its index, if that is declared.
 fn overlay_symbols<F: ExactField>(symbols: &mut [Symbol<F>], others: &mut [Symbol<F>])
     ensures { symbols.new ≡ overlaid_symbols symbols.old others.old }
 {

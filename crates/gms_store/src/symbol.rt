@@ -1,4 +1,4 @@
-//! A name of the program: the sets of its positions, and what it stands for.
+//! A name of the program: the sets of its positions, and what it denotes.
 ghost use Rattle.std.specs.Prelude.{◌≡◌, ◌==◌, ℕ, List, [], true, length, option_map, OnOk, OnErr, IfOk, IfSome, IfNone};
 ghost use Rattle.gq_extended.specs.Meaning.{extended};
 ghost use Rattle.gms_tuple.specs.TupleOrder.{IsOrdered};
@@ -20,13 +20,14 @@ use std::alloc::{AllocError, Global};
 use std::marker::Model;
 use std::mem;
 
-/// A name of the program.
+/// The symbol of a name: the set of each position of the name, and what the name denotes, with its
+/// data.
 pub struct Symbol<F: ExactField> {
     domain: Sequence<Option<u32>>,
     content: Content<F>,
 }
 
-// Written out, so that it is proved here alone, and not in each crate that lets one go.
+// Written out, so that it is proved here once, and not in each crate that drops such a value.
 impl<F: ExactField> Drop for Symbol<F> {
     fn drop(self) {
         let Self {
@@ -53,7 +54,7 @@ impl<F: ExactField> Model for Symbol<F> {
 }
 
 impl<F: ExactField> Symbol<F> {
-    /// A name that nothing declares.
+    /// The symbol of a name that no statement declares.
     pub fn undeclared(alloc: Global) -> Symbol<F>
         ensures { result ≡ no_symbol }
     {
@@ -63,8 +64,9 @@ impl<F: ExactField> Symbol<F> {
         }
     }
 
-    /// A name that is declared, with nothing given. A set without a domain has one position, of any
-    /// label.
+    /// The symbol of a name that a declaration of this kind declares, without data. `domain` has
+    /// the set of each position, `None` for a position that admits any label. A set whose `domain`
+    /// is empty has one position, which admits any label. The only error is out of memory.
     pub fn new(
         alloc: Global,
         kind: DeclKind,
@@ -79,7 +81,7 @@ impl<F: ExactField> Symbol<F> {
         })
     }
 
-    /// Another name of a set.
+    /// The symbol of an alias of the set whose name has the number `base`.
     pub fn alias(alloc: Global, base: u32) -> Symbol<F>
         ensures { result ≡ alias_symbol base }
     {
@@ -89,7 +91,7 @@ impl<F: ExactField> Symbol<F> {
         }
     }
 
-    /// A model before any solve.
+    /// The symbol of a model that was not solved yet.
     pub fn model(alloc: Global) -> Symbol<F>
         ensures { result ≡ model_symbol }
     {
@@ -99,7 +101,7 @@ impl<F: ExactField> Symbol<F> {
         }
     }
 
-    /// Whether nothing declares the name.
+    /// Whether the symbol is that of a name that no statement declares.
     pub fn is_undeclared(&self) -> bool
         ensures { result ≡ is_undeclared self.now.content }
     {
@@ -109,7 +111,7 @@ impl<F: ExactField> Symbol<F> {
         }
     }
 
-    /// Whether the name is that of a variable whose type is free.
+    /// Whether the symbol is a variable of the type `Free`.
     pub fn is_free(&self) -> bool
         ensures { result ≡ is_free self.now.content }
     {
@@ -119,7 +121,7 @@ impl<F: ExactField> Symbol<F> {
         }
     }
 
-    /// Whether the name is another name of a set.
+    /// Whether the symbol is an alias of a set.
     pub fn is_alias(&self) -> bool
         ensures { result ≡ is_alias self.now.content }
     {
@@ -129,7 +131,7 @@ impl<F: ExactField> Symbol<F> {
         }
     }
 
-    /// Whether the name is that of a set, or another name of one.
+    /// Whether the symbol is a set or an alias of a set.
     pub fn is_set(&self) -> bool
         ensures { result ≡ is_set self.now.content }
     {
@@ -140,8 +142,9 @@ impl<F: ExactField> Symbol<F> {
         }
     }
 
-    /// Declares the name once more: the first declaration counts, except for the type of a free
-    /// variable. If out of memory, the name is as it was.
+    /// Declares the symbol's name with this kind and domain. A symbol that is declared already is
+    /// unchanged, except that the declaration may give a type to a free variable. If out of memory,
+    /// the symbol is unchanged.
     pub fn declare(
         &mut self,
         alloc: Global,
@@ -160,8 +163,8 @@ impl<F: ExactField> Symbol<F> {
         Ok(())
     }
 
-    /// Takes the type of a later declaration if the name is a variable of free type and the later
-    /// one is of a variable too; else changes nothing.
+    /// Takes the type of a later declaration of variables if the name is a free variable; otherwise
+    /// changes nothing.
     fn retype(&mut self, alloc: Global, kind: DeclKind)
         ensures { self.new ≡ with_content self.old (retyped self.old.content (content_of kind)) }
     {
@@ -174,7 +177,8 @@ impl<F: ExactField> Symbol<F> {
         }
     }
 
-    /// Becomes another symbol, where that is declared, and that one becomes this.
+    /// Replaces this symbol by `other`, with its data, if `other` is declared: the two are swapped.
+    /// Otherwise this symbol is unchanged.
     pub fn overlay(&mut self, other: &mut Symbol<F>)
         ensures { self.new ≡ chosen self.old other.old }
     {
@@ -183,7 +187,7 @@ impl<F: ExactField> Symbol<F> {
         }
     }
 
-    /// What the name is declared as.
+    /// The kind that the symbol's name is declared as. For an alias this is a set.
     pub fn kind(&self) -> SymbolKind
         ensures { result ≡ kind_in self.now.content }
     {
@@ -198,7 +202,8 @@ impl<F: ExactField> Symbol<F> {
         }
     }
 
-    /// The number of the set of an alias, and else `name`.
+    /// The number of the set of which the symbol is an alias. If it is no alias, `name`, which is
+    /// the number of the symbol's own name.
     pub fn unaliased(&self, name: u32) -> u32
         ensures { result ≡ alias_target name self.now.content }
     {
@@ -208,14 +213,17 @@ impl<F: ExactField> Symbol<F> {
         }
     }
 
-    /// The set of each position, `None` where there is none.
+    /// For each position of the symbol the number of the set whose labels it admits, `None` for a
+    /// position that admits any label.
     pub fn domain(&self) -> &[Option<u32>]
         ensures { result.now ≡ self.now.domain }
     {
         self.domain.as_slice()
     }
 
-    /// The tuples at which something is given, where the name has any.
+    /// The tuples at which the symbol has data, in the order of tuples: the members of a set, or
+    /// the tuples at which a parameter, a variable or an equation differs from an element without
+    /// data. `None` if the symbol is of a kind without tuples: not declared, an alias or a model.
     pub fn given(&self) -> Option<&TupleSet>
         ensures some { IfSome result (λ set. set.now ≡ given_in self.now.content) }
         ensures none { IfNone result (given_in self.now.content ≡ []) }
@@ -235,7 +243,8 @@ impl<F: ExactField> Symbol<F> {
         }
     }
 
-    /// The members of a set. `None` where the name is none.
+    /// The members of a set, in the order of tuples. `None` if the symbol is no set; an alias is
+    /// none.
     pub fn members(&self) -> Option<&TupleSet>
         ensures some { IfSome result (λ set. set.now ≡ members_in self.now.content) }
         ensures none { IfNone result (members_in self.now.content ≡ []) }
@@ -250,7 +259,7 @@ impl<F: ExactField> Symbol<F> {
         }
     }
 
-    /// The value of a parameter at a tuple: 0 where none is given.
+    /// The value of a parameter at a tuple: 0 if there are no data at the tuple.
     pub fn value(&self, t: &Tuple) -> Ext<F>
         ensures { extended F.value result ≡ value_in self.now.content t.now }
     {
@@ -261,7 +270,9 @@ impl<F: ExactField> Symbol<F> {
         }
     }
 
-    /// The same, found sooner where the tuple has this place among those that are given.
+    /// The value of a parameter at a tuple: 0 if there are no data at the tuple. `place` affects
+    /// speed only: the search is faster if it is the index, from 0, of the tuple among those with
+    /// data.
     pub fn value_near(&self, t: &Tuple, place: usize) -> Ext<F>
         ensures { extended F.value result ≡ value_in self.now.content t.now }
     {
@@ -272,7 +283,8 @@ impl<F: ExactField> Symbol<F> {
         }
     }
 
-    /// The attributes of a variable or an equation at a tuple: those of its type if none are given.
+    /// The bounds, the level and the marginal of a variable or an equation at a tuple: those of an
+    /// element without data if there are no data at the tuple.
     pub fn attributes(&self, t: &Tuple) -> Attributes<F>
         ensures { attributes_shown F.value result ≡ attributes_in self.now.content t.now }
     {
@@ -285,7 +297,9 @@ impl<F: ExactField> Symbol<F> {
         }
     }
 
-    /// The same, found sooner where the tuple has this place among those that are given.
+    /// The bounds, the level and the marginal of a variable or an equation at a tuple: those of an
+    /// element without data if there are no data at the tuple. `place` affects speed only: the
+    /// search is faster if it is the index, from 0, of the tuple among those with data.
     pub fn attributes_near(&self, t: &Tuple, place: usize) -> Attributes<F>
         ensures { attributes_shown F.value result ≡ attributes_in self.now.content t.now }
     {
@@ -300,7 +314,9 @@ impl<F: ExactField> Symbol<F> {
         }
     }
 
-    /// The status of a model and that of its solver.
+    /// The two statuses of a model as numbers: the model's status, `.modelstat`, and then the
+    /// solver's, `.solvestat`. Both are 0 until a solve of the model, and if the symbol is no
+    /// model.
     pub fn statuses(&self) -> (u8, u8)
         ensures { result ≡ statuses_in self.now.content }
     {
@@ -317,7 +333,9 @@ impl<F: ExactField> Symbol<F> {
         t.as_slice().len() == self.domain.len()
     }
 
-    /// Puts a tuple into a set or removes it. If out of memory, all is as it was.
+    /// Inserts a tuple into a set if `on`, and otherwise removes it from the set. A symbol of
+    /// another kind, or a tuple with another number of labels than the symbol has positions,
+    /// changes nothing. If out of memory, the symbol is unchanged.
     pub fn set_member(&mut self, alloc: Global, t: &Tuple, on: bool) -> Result<(), AllocError>
         ensures ok { OnOk result (self.new ≡ if_fits self.old t.now (with_membership self.old.content t.now on)) }
         ensures err { OnErr result (self.new ≡ self.old) }
@@ -337,8 +355,9 @@ impl<F: ExactField> Symbol<F> {
         Ok(())
     }
 
-    /// Puts the value of a parameter at a tuple, where it is kept if it is not 0. If out of memory,
-    /// all is as it was.
+    /// Writes the value of a parameter at a tuple; a value of 0 is not stored. A symbol of another
+    /// kind, or a tuple with another number of labels than the symbol has positions, changes
+    /// nothing. If out of memory, the symbol is unchanged.
     pub fn put(&mut self, alloc: Global, t: &Tuple, value: Ext<F>) -> Result<(), AllocError>
         ensures ok { OnOk result (self.new ≡ if_fits self.old t.now (with_value self.old.content t.now (extended F.value value))) }
         ensures err { OnErr result (self.new ≡ self.old) }
@@ -353,8 +372,10 @@ impl<F: ExactField> Symbol<F> {
         Ok(())
     }
 
-    /// Puts the attributes of a variable or an equation at a tuple, where they are kept if they are
-    /// not those of its type. If out of memory, all is as it was.
+    /// Writes the bounds, the level and the marginal of a variable or an equation at a tuple; they
+    /// are not stored if they are those of an element without data. A symbol of another kind, or a
+    /// tuple with another number of labels than the symbol has positions, changes nothing. If out
+    /// of memory, the symbol is unchanged.
     pub fn put_attributes(
         &mut self,
         alloc: Global,
@@ -380,7 +401,8 @@ impl<F: ExactField> Symbol<F> {
         Ok(())
     }
 
-    /// Puts the two statuses of a model.
+    /// Writes the two statuses of a model as numbers: `model` is the model's status, `.modelstat`,
+    /// and `solver` the solver's, `.solvestat`. A symbol that is no model is unchanged.
     pub fn put_statuses(&mut self, model: u8, solver: u8)
         ensures { self.new ≡ with_content self.old (with_statuses self.old.content model solver) }
     {
@@ -401,7 +423,8 @@ fn is_given<F: ExactField>(value: Ext<F>) -> bool
     }
 }
 
-/// The positions of a name that is declared: a set without a domain has one, of any label.
+/// The set of each position of a name that is declared, `None` for one that admits any label. A set
+/// without a written domain has one such position.
 fn positions(
     alloc: Global,
     kind: DeclKind,
@@ -428,7 +451,7 @@ fn names(alloc: Global, domain: &[Option<Named>]) -> Result<Vec<Option<u32>>, Al
     Ok(sets)
 }
 
-/// What a kind of declaration declares, with nothing given.
+/// What a declaration of this kind declares, without data.
 fn declared<F: ExactField>(alloc: Global, kind: DeclKind) -> Content<F>
     ensures { content_shown F.value result ≡ content_of kind }
 {

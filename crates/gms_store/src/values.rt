@@ -11,14 +11,15 @@ use std::cmp::Ordering;
 use std::collections::BTreeMap;
 use std::marker::Model;
 
-/// Values at tuples. A value at a tuple after all others is appended without a search, and takes
-/// precedence over the tree; if it is removed, its place stays.
+/// Values at tuples. A value at a tuple after all others is appended to `following` without a
+/// search, and takes precedence over the one in the tree. A removed value leaves `None` in
+/// `following`.
 pub(crate) struct Values<X> {
     tree: BTreeMap<Tuple, X>,
     following: Vec<(Tuple, Option<X>)>,
 }
 
-// Written out, so that it is proved here alone, and not in each crate that lets one go.
+// Written out, so that it is proved here once, and not in each crate that drops such a value.
 impl<X: Drop> Drop for Values<X> {
     fn drop(self) {
         let Self {
@@ -45,7 +46,7 @@ impl<X> Model for Values<X> {
 }
 
 impl<X: Copy> Values<X> {
-    /// No values.
+    /// The map that has no value at any tuple.
     pub fn new(alloc: Global) -> Values<X>
         ensures { result ≡ finite.empty }
     {
@@ -55,7 +56,7 @@ impl<X: Copy> Values<X> {
         }
     }
 
-    /// The value at a tuple, if any.
+    /// The value at a tuple; `None` if the map has no value there.
     pub fn get(&self, t: &Tuple) -> Option<X>
         ensures { result ≡ finite.get self.now t.now }
     {
@@ -65,8 +66,9 @@ impl<X: Copy> Values<X> {
         }
     }
 
-    /// The value at a tuple, if any. It is found at once if the tuple has this place in the
-    /// appended part.
+    /// The value at a tuple; `None` if the map has no value there. `place` affects speed only: no
+    /// search is made if it is the index, from 0, of the tuple in `following`, the list of the
+    /// values that were appended in the order of tuples.
     pub fn get_near(&self, t: &Tuple, place: usize) -> Option<X>
         ensures { result ≡ finite.get self.now t.now }
     {
@@ -76,7 +78,8 @@ impl<X: Copy> Values<X> {
         self.get(t)
     }
 
-    /// Puts a value at a tuple. If out of memory, the values are as they were.
+    /// Puts a value at a tuple, in place of the value there, if any. If out of memory, the map is
+    /// unchanged.
     pub fn insert(&mut self, alloc: Global, t: &Tuple, value: X) -> Result<(), AllocError>
         ensures ok { OnOk result (self.new ≡ finite.insert self.old t.now value) }
         ensures err { OnErr result (self.new ≡ self.old) }
@@ -95,7 +98,7 @@ impl<X: Copy> Values<X> {
         Ok(())
     }
 
-    /// Removes the value at a tuple, if any.
+    /// Removes the value at a tuple, if the map has one there.
     pub fn remove(&mut self, t: &Tuple)
         ensures { self.new ≡ finite.remove self.old t.now }
     {
@@ -108,7 +111,7 @@ impl<X: Copy> Values<X> {
     }
 }
 
-/// Whether a tuple is at a place.
+/// Whether the index `place` of the list has this tuple.
 fn is_at_place<X>(following: &[(Tuple, Option<X>)], place: usize, t: &Tuple) -> bool
     ensures { IsTrue result → IsAtPlace following.now place t.now }
 {
@@ -118,7 +121,7 @@ fn is_at_place<X>(following: &[(Tuple, Option<X>)], place: usize, t: &Tuple) -> 
     }
 }
 
-/// The place of a tuple among tuples in order.
+/// The index of a tuple in an ordered list; `None` if the list does not have it.
 fn place_in<X>(following: &[(Tuple, Option<X>)], t: &Tuple) -> Option<usize>
     requires { IsOrdered (keys_of following.now) }
     ensures there { IfSome result (λ place. IsAtPlace following.now place t.now) }
@@ -141,7 +144,7 @@ fn comes_last<X>(following: &[(Tuple, Option<X>)], t: &Tuple) -> bool
     }
 }
 
-/// Puts a value, or none, at a place.
+/// Puts a value, or `None`, at the index `place` of the list.
 fn put_at<X: Copy>(following: &mut Vec<(Tuple, Option<X>)>, place: usize, value: Option<X>)
     requires { place < length following.old.items }
     ensures { (t : List ℕ) → IsAtPlace following.old.items place t → following.new.items ≡ set following.old.items place (t, value) }

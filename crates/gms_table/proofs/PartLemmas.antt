@@ -52,7 +52,7 @@ module _ {F : Type 0} (limit : ℕ) (value : F → Number) where
   AreEntries-cell labels (cell r hs w ∷ parts) row headings word (e ∷ entries) entry are is = (are.0, AreEntries-cell labels parts row headings word entries entry are.1 is)
 
 module _ (limit : ℕ) (labels : List (List ℕ)) where
-  -- one part more at which nothing stands
+  -- one part more, at which there is nothing
   pub AreSound-push : (before parts : List TablePart) (part : TablePart) → ArePartsFaultless limit labels before parts → ((error : TableError) → ¬ IsPartFault limit labels (before ++ parts) part error) → ArePartsFaultless limit labels before (parts ++ part ∷ [])
   AreSound-push before [] part sound none = ((λ error h. none error (subst (λ ps. IsPartFault limit labels ps part error) (sym (append-nil before)) h)), tt)
   AreSound-push before (p ∷ parts) part sound none =

@@ -7,19 +7,20 @@ use Rattle.gq_number.specs.Number.{Number, neg_ℚ}
 use Rattle.gq_text.specs.Decimal.{MeansNumber}
 use Rattle.gq_text.specs.Literal.{FitsLiteral}
 
--- a text without its sign, if it begins with one
+-- a text without the sign with which it begins, if it begins with one
 abbrev pub unsigned : List ℕ → List ℕ
 unsigned text = if begins is_sign text then drop 1 text else text
 
--- a number with the sign that a text begins with
+-- the number x, negated if the text begins with `-`
 abbrev pub signed_number : List ℕ → Number → Number
 signed_number text x = if begins (λ b. b == 45) text then neg_ℚ x else x
 
--- the text is a number, of any size, with or without a sign
+-- the text is a number, however large, with or without a sign
 abbrev pub IsNumberText : List ℕ → Type 0
 IsNumberText text = (x : Number) × MeansNumber (unsigned text) x
 
--- the text is this number, which is within the limit by the rule for literals
+-- The text is a number, with or without a sign: its value is y, and its magnitude fits under the
+-- limit as a literal.
 pub record IsValue (limit : ℕ) (text : List ℕ) (y : Number) : Type 0 where
   pub magnitude : Number
   pub means : MeansNumber (unsigned text) magnitude

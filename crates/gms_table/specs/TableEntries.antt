@@ -20,26 +20,28 @@ use Rattle.gms_table.specs.Faults.{table_error_code}
 
 -- ---- what the words of a table are
 
--- A word of a table.
+-- A word of a table, except a `+` before further headings.
 pub data TablePart : Type 0 where
   -- a heading or a row label
   name : Word → TablePart
-  -- a later word of a row, where a number is expected: with the row's label and the headings that
-  -- apply to it
+  -- a word of a row after its label, where a number is expected: the row's label, the headings that
+  -- apply to the row, and the word
   cell : Word → List Word → Word → TablePart
 
--- the word `+`
+-- whether a word is `+`
 abbrev pub is_plus : Word → Bool
 is_plus word = begins (λ b. b == 43) word.text && length word.text == 1
 
--- the words of lines under these headings: new headings follow a `+`, and any other line is a row
+-- the words of the lines after the headings `headings`: new headings follow a `+`, and any other
+-- line is a row
 abbrev pub under : List Word → List (List Word) → List TablePart
 under headings [] = []
 under headings ([] ∷ lines) = under headings lines
 under headings ((first ∷ words) ∷ lines) =
     if is_plus first then map name words ++ under words lines else name first ∷ (map (cell first headings) words ++ under headings lines)
 
--- the words of a table, whose first line with words has the headings
+-- the words of a table, given those of each of its lines; the first line with words has the
+-- headings
 abbrev pub table_of : List (List Word) → List TablePart
 table_of [] = []
 table_of ([] ∷ lines) = table_of lines
@@ -54,7 +56,7 @@ abbrev pub place_of_part : TablePart → Place
 place_of_part (name word) = word.at
 place_of_part (cell row headings word) = word.at
 
--- the labels of headings and row labels, in order
+-- the labels that make up the headings and the row labels, in order
 abbrev pub label_texts : List TablePart → List (List ℕ)
 label_texts [] = []
 label_texts (name word ∷ parts) = labels_of_word word ++ label_texts parts
@@ -62,23 +64,25 @@ label_texts (cell row headings word ∷ parts) = label_texts parts
 
 -- ---- which heading a number is under
 
--- a number at columns p up to q and a heading at columns r up to s meet where p < s and r < q
+-- whether a number and a heading share a column: a number at columns p up to q, q not included, and
+-- a heading at columns r up to s, s not included, meet where p < s and r < q
 abbrev pub meet : Word → Word → Bool
 meet number heading = nat_lt number.at.column heading.end && nat_lt heading.at.column number.end
 
--- the headings that a number meets
+-- those of the headings that a number meets
 abbrev pub met : List Word → Word → List Word
 met headings number = filter (meet number) headings
 
--- a row label and a heading as labels, letter case ignored
+-- the labels of the row and of the heading of a number, in lower case; two numbers with equal keys
+-- are entries of the same row and heading
 abbrev pub Key : Type 0
 Key = List (List ℕ) × List (List ℕ)
 
--- the labels of a row and of a heading
+-- the key of a number in this row under this heading: the labels of both, in lower case
 abbrev pub key_of : Word → Word → Key
 key_of row heading = (map lower_case (labels_of_word row), map lower_case (labels_of_word heading))
 
--- the rows and headings of the numbers
+-- the keys of the numbers, in order: of each number one key for each heading that it meets
 abbrev pub keys_of : List TablePart → List Key
 keys_of [] = []
 keys_of (name word ∷ parts) = keys_of parts
@@ -87,8 +91,9 @@ keys_of (cell row headings word ∷ parts) = map (key_of row) (met headings word
 -- ---- entries
 
 module _ {F : Type 0} (limit : ℕ) (value : F → Number) (labels : List (List ℕ)) where
-  -- An entry is that of a number in a row under these headings: the one heading that it meets, its
-  -- place and its value; the labels have their numbers in the table of labels.
+  -- The entry is that of the number `word` in the row `row` under these headings: it has the word's
+  -- place, the value that the word means, and the labels of the row and of the one heading that the
+  -- word meets, by their numbers in the table `labels`.
   pub record IsEntry (row : Word) (headings : List Word) (word : Word) (entry : Entry F) : Type 0 where
     pub heading : Word
     pub under_one : met headings word ≡ heading ∷ []
@@ -97,7 +102,7 @@ module _ {F : Type 0} (limit : ℕ) (value : F → Number) (labels : List (List 
     pub column_is : AreLabelNumbers labels entry.column (labels_of_word heading)
     pub value_is : IsValue limit word.text (value entry.value)
 
-  -- the entries of a table: one for each number, in order
+  -- the entries of a table: one for each number, in the order of the numbers
   abbrev pub AreEntries : List TablePart → List (Entry F) → Type 0
   AreEntries [] entries = entries ≡ []
   AreEntries (name word ∷ parts) entries = AreEntries parts entries
@@ -107,10 +112,11 @@ module _ {F : Type 0} (limit : ℕ) (value : F → Number) (labels : List (List 
 -- ---- faults
 
 module _ (limit : ℕ) (labels : List (List ℕ)) where
-  -- The error at a part of a table after these others. A heading or a row label is not made of
-  -- labels, or one of its labels exceeds the limit of the table of labels. Where a number is
-  -- expected, a number meets no heading, meets two or more, or is the second one of its row and
-  -- heading; or there is no number within the limit.
+  -- The word has this error, after the words `before`. BadRow and Labels: a heading or a row label
+  -- is not made of labels, or has a label beyond the limit of the table of labels. Where a number
+  -- is expected, NoColumn, TwoColumns and RepeatedEntry: a number meets no heading, meets more than
+  -- one, or is the second number of its row and heading; and BadRow: the word is no number within
+  -- the limit.
   abbrev pub IsPartFault : List TablePart → TablePart → TableError → Type 0
   IsPartFault before (name word) BadRow = labels_of_text word.text ≡ None
   IsPartFault before (name word) Labels = most_labels < length (all_entered labels (label_texts before ++ labels_of_word word))
@@ -126,13 +132,13 @@ module _ (limit : ℕ) (labels : List (List ℕ)) where
   IsPartFault before (cell row headings word) NoHeading = ⊥
   IsPartFault before (cell row headings word) Labels = ⊥
 
-  -- none of these parts, which follow others, has an error
+  -- none of the words in the second list, which follow the words `before`, has an error
   abbrev pub ArePartsFaultless : List TablePart → List TablePart → Type 0
   ArePartsFaultless before [] = Unit {0}
   ArePartsFaultless before (part ∷ parts) = ((error : TableError) → ¬ IsPartFault before part error) × ArePartsFaultless (before ++ part ∷ []) parts
 
-  -- The first fault of a table: no part before its part has an error, and it is the least error
-  -- there.
+  -- The fault is the first of the words: no word before the one at its place has an error, and of
+  -- the errors of that word its error has the least number.
   pub record IsFirstPartFault (parts : List TablePart) (fault : TableFault) : Type 0 where
     pub before : List TablePart
     pub part : TablePart
@@ -145,24 +151,24 @@ module _ (limit : ℕ) (labels : List (List ℕ)) where
 
 -- ---- the whole
 
--- a default place
+-- the place of a fault that belongs to no word
 abbrev pub nowhere : Place
 nowhere = record { line = 0; column = 0 }
 
--- These are the entries of a table with headings and without faults; `before` and `after` are the
--- labels before and after it.
+-- These are the entries of a table that has headings and no fault; `before` and `after` are the
+-- labels of the program before the table and after it.
 pub record IsTable {F : Type 0} (limit : ℕ) (value : F → Number) (lines : List TableLine) (before after : List (List ℕ)) (entries : List (Entry F)) : Type 0 where
   pub headed : ¬ (table_parts lines ≡ [])
   pub sound : ArePartsFaultless limit before [] (table_parts lines)
   pub labels_are : after ≡ all_entered before (label_texts (table_parts lines))
   pub entries_are : AreEntries limit value after (table_parts lines) entries
 
--- the fault of a table: no line has a heading, or the first fault in its lines
+-- the table has this fault: no line has a heading, or it is the first fault in the lines
 abbrev pub IsTableFault : ℕ → List TableLine → List (List ℕ) → TableFault → Type 0
 IsTableFault limit lines labels fault =
     ((table_parts lines ≡ []) × (fault ≡ record { error = NoHeading; at = nowhere })) ⊎ IsFirstPartFault limit labels (table_parts lines) fault
 
--- an answer in place of entries: the first fault of the table, or out of memory
+-- the result in place of entries is right: the fault of the table, or out of memory
 abbrev pub IsTableRefusal : ℕ → List TableLine → List (List ℕ) → TableFaultOrMemory → Type 0
 IsTableRefusal limit lines labels (Fault fault) = IsTableFault limit lines labels fault
 IsTableRefusal limit lines labels Memory = Unit {0}

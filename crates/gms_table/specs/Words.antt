@@ -12,40 +12,44 @@ pub record Word : Type 0 where
   pub end : ℕ
   pub text : List ℕ
 
--- the fields after the first of a text, given those of what follows the byte that splits it; none
--- at the end of the text
+-- the fields after the first field of a text. The second argument is the text from the byte that
+-- ends the first field: what follows that byte has the fields that `fields` gives; an empty text
+-- has none
 abbrev pub others_by : (List ℕ → List (List ℕ)) → List ℕ → List (List ℕ)
 others_by fields [] = []
 others_by fields (b ∷ rest) = fields rest
 
--- the first fields of a text, at most `most` of them
+-- the first fields of a text, which is split at bytes that pass the test; at most `most` fields
 abbrev pub first_fields : (ℕ → Bool) → ℕ → List ℕ → List (List ℕ)
 first_fields test zero text = []
 first_fields test (suc most) text = take (field_bytes test text) text ∷ others_by (first_fields test most) (drop (field_bytes test text) text)
 
--- the fields between the bytes that split a text, at most as many as its bytes plus one; a field
--- may be empty
+-- the fields of a text, split at bytes that pass the test outside labels in quotation marks; a
+-- field may be empty
 abbrev pub parted : (ℕ → Bool) → List ℕ → List (List ℕ)
 parted test text = first_fields test (suc (length text)) text
 
--- the column of a byte of a line, or of its end
+-- the column, from 1, of the byte n of a line, counted from 0, or the column of the line's end
 abbrev pub column_of_byte : List ℕ → ℕ → ℕ
 column_of_byte line n = fold column_after 1 (take n line)
 
--- the word of these bytes, which has this place and ends before this column; none without bytes
+-- the word with these bytes, which has the place `at` and ends before the column `end`; no word if
+-- there are no bytes
 abbrev pub word_of : Place → ℕ → List ℕ → List Word
 word_of at end [] = []
 word_of at end (b ∷ text) = record { at = at; end = end; text = b ∷ text } ∷ []
 
--- the word of these bytes of a line, which begin at byte `start`
+-- the word with the bytes `text`, which begins at byte `start` of the line `line`, numbered
+-- `number`; no word if there are no bytes
 abbrev pub word_at : ℕ → List ℕ → ℕ → List ℕ → List Word
 word_at number line start text = word_of record { line = number; column = column_of_byte line start } (column_of_byte line (start + length text)) text
 
--- the words among the fields between the blanks of a line, of which the first begins at this byte
+-- the words among these fields of a line, numbered `number`, where the first field begins at byte
+-- `start` of the line; empty fields are no words
 abbrev pub words_among : ℕ → List ℕ → ℕ → List (List ℕ) → List Word
 words_among number line start [] = []
 words_among number line start (text ∷ others) = word_at number line start text ++ words_among number line (start + length text + 1) others
 
--- the words of the line of this number
+-- the words of a line, whose number in the source is `number`
 abbrev pub words_of : ℕ → List ℕ → List Word
 words_of number line = words_among number line 0 (parted is_blank line)

@@ -7,7 +7,7 @@ use gms_labels::Place;
 use std::alloc::{AllocError, AllocFailed};
 use thiserror::Error;
 
-/// An error of a table.
+/// An error of a table, by its cause.
 #[derive(Clone, Copy, Debug, Error)]
 pub enum TableError {
     /// A number under no heading.
@@ -32,7 +32,7 @@ pub enum TableError {
 }
 
 impl TableError {
-    /// The number of the error.
+    /// The number of this error in a listing.
     pub fn code(self) -> u8
         ensures { result ≡ table_error_code self }
     {
@@ -46,7 +46,7 @@ impl TableError {
         }
     }
 
-    /// The name of the error.
+    /// The name of this error in a listing.
     pub fn name(self) -> &'static str
         ensures { result.now ≡ table_error_name self }
     {
@@ -61,17 +61,18 @@ impl TableError {
     }
 }
 
-/// An error of a table and the place of its word.
+/// An error of a table, and the place of the word at which it occurs.
 #[derive(Clone, Copy, Debug, Error)]
 #[error("{at}: {code} {name}: {error}", code = .error.code(), name = .error.name())]
 pub struct TableFault {
-    /// The error.
+    /// The error of the table, by its cause.
     pub error: TableError,
-    /// Where the word is; line 0 and column 0 for a table without headings.
+    /// The place in the source of the word at which the error occurs. It has line 0 and column 0 if
+    /// the table has no headings.
     pub at: Place,
 }
 
-/// A fault of a table, or out of memory.
+/// Why a table is not read: it has an error, or memory runs out.
 #[derive(Clone, Copy, Debug, Error)]
 pub enum TableFaultOrMemory {
     /// Out of memory.

@@ -220,7 +220,7 @@ removed-first (x ∷ xs) t n ordered at l =
           rw e (ap (λ ys. x ∷ ys) (removed-first xs t m (rest-ordered x xs ordered) refl (omega arith)))
     ] refl at
 
--- the place that is answered is the first at which the tuple stands
+-- the place that is answered is the first at which the tuple is
 place_of-Some : (xs : List (List ℕ)) (t : List ℕ) (n : ℕ) → place_of_tuple xs t ≡ Some n → (n < length xs) × (position_or_len (λ member. same_tuple member t) xs ≡ n)
 place_of-Some xs t n found =
     let m = position_or_len (λ member. same_tuple member t) xs in

@@ -18,7 +18,7 @@ is_before a b = is_lt (tuple_cmp a b)
 abbrev pub same_tuple : List ℕ → List ℕ → Bool
 same_tuple a b = pointwise nat_eq a b
 
--- whether a tuple begins with all labels of another
+-- whether a tuple begins with all labels of `prefix`, in their order
 abbrev pub begins_with : List ℕ → List ℕ → Bool
 begins_with tuple prefix = starts_with nat_eq tuple prefix
 

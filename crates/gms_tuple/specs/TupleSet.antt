@@ -7,11 +7,11 @@ use Rattle.gms_tuple.specs.TupleOrder.{is_before, same_tuple, begins_with}
 abbrev pub has : List (List ℕ) → List ℕ → Bool
 has members tuple = list_any (λ member. same_tuple member tuple) members
 
--- the place of a tuple among the members
+-- the index of a tuple in the list of members, from 0; None if it is no member
 abbrev pub place_of_tuple : List (List ℕ) → List ℕ → Option ℕ
 place_of_tuple members tuple = position (λ member. same_tuple member tuple) members
 
--- the members, and the tuple at its place in the order
+-- the members with the tuple inserted in order; unchanged if it is a member already
 abbrev pub inserted : List (List ℕ) → List ℕ → List (List ℕ)
 inserted members tuple =
     if has members tuple then members else filter (λ member. is_before member tuple) members ++ tuple ∷ filter (λ member. is_before tuple member) members
@@ -20,26 +20,26 @@ inserted members tuple =
 abbrev pub removed : List (List ℕ) → List ℕ → List (List ℕ)
 removed members tuple = filter (λ member. not (same_tuple member tuple)) members
 
--- the members that the other set lacks
+-- the members that are not in the set `others`
 abbrev pub set_difference : List (List ℕ) → List (List ℕ) → List (List ℕ)
 set_difference members others = filter (λ member. not (has others member)) members
 
--- the members that the other set has
+-- the members that are in the set `others` too
 abbrev pub intersection : List (List ℕ) → List (List ℕ) → List (List ℕ)
 intersection members others = filter (λ member. has others member) members
 
--- how many members come before a prefix
+-- how many members come before the tuple `prefix` in the order of tuples
 abbrev pub count_before : List (List ℕ) → List ℕ → ℕ
 count_before members prefix = count_by (λ member. is_before member prefix) members
 
--- how many members begin with a prefix
+-- how many members begin with the labels of `prefix`
 abbrev pub count_with : List (List ℕ) → List ℕ → ℕ
 count_with members prefix = count_by (λ member. begins_with member prefix) members
 
--- whether a member comes before a prefix; with `through`, also whether it begins with it
+-- whether a member comes before the tuple `prefix` or, if `through`, begins with its labels
 abbrev pub is_within : Bool → List ℕ → List ℕ → Bool
 is_within through prefix member = is_before member prefix || (through && begins_with member prefix)
 
--- the members that begin with a prefix, in order
+-- the members that begin with the labels of `prefix`, in order
 abbrev pub those_with : List (List ℕ) → List ℕ → List (List ℕ)
 those_with members prefix = filter (λ member. begins_with member prefix) members

@@ -3,7 +3,7 @@ ghost use Rattle.std.specs.Prelude.{◌≡◌};
 
 use crate::tuple::MOST_LABELS;
 
-/// A tuple has at most 10 labels, which callers name `MOST_LABELS`.
+/// `MOST_LABELS`, the greatest number of labels of a tuple, is 10.
 pub fn limit_laws()
     ensures { MOST_LABELS ≡ 10 }
 {}

@@ -1,4 +1,4 @@
-//! Tuples in a list: a tree, followed by the last few as they came.
+//! A list of tuples: a tree, followed by the tuples that were appended last.
 ghost use Rattle.std.specs.Prelude.{◌≡◌, ◌<◌, ◌≤◌, ◌+◌, ◌^◌, ◌++◌, [], length, count_by, slice_get, Some, IfOk, OnOk, OnErr};
 ghost use Rattle.std.specs.List.{insert, remove};
 ghost use Rattle.gms_tuple.specs.TupleOrder.{IsOrdered};
@@ -12,9 +12,10 @@ use std::marker::Model;
 /// How many tuples follow the tree at most.
 const MOST_BEHIND: usize = 64;
 
-/// Tuples in a list. A tuple is reached, inserted and removed by its place, in as many steps as the
-/// logarithm of their number. One that is put after all others is put there without a search, and
-/// with `MOST_BEHIND` others at a time into the tree.
+/// A list of tuples, stored as a tree and the vector `following` of the tuples after it. A tuple is
+/// reached, inserted and removed by its index, in logarithmic time. An appended tuple needs no
+/// search: it is pushed to `following`, whose tuples move into the tree once there are
+/// `MOST_BEHIND` of them.
 pub struct Line {
     tree: Tree,
     following: Vec<Tuple>,
@@ -41,7 +42,7 @@ impl Model for Line {
 }
 
 impl Line {
-    /// No tuples.
+    /// A list without tuples.
     pub fn new(alloc: Global) -> Line
         ensures { result ≡ [] }
     {
@@ -51,14 +52,14 @@ impl Line {
         }
     }
 
-    /// How many tuples there are.
+    /// How many tuples the list has.
     pub fn len(&self) -> usize
         ensures { result ≡ length self.now }
     {
         self.tree.len() + self.following.len()
     }
 
-    /// The tuple at a place.
+    /// The tuple at the index `place`, from 0.
     pub fn get(&self, place: usize) -> &Tuple
         requires { place < length self.now }
         ensures { slice_get self.now place ≡ Some result.now }
@@ -71,8 +72,8 @@ impl Line {
         }
     }
 
-    /// How many tuples of an ordered list come before one; with `through`, also those that begin
-    /// with it.
+    /// How many tuples of this list, which is required to be ordered, come before `t`. If
+    /// `through`, the tuples that begin with all labels of `t` are counted as well.
     pub fn count(&self, t: &Tuple, through: bool) -> usize
         requires { IsOrdered self.now }
         ensures { result ≡ count_by (is_within through t.now) self.now }
@@ -92,7 +93,7 @@ impl Line {
         self.tree.len() + within
     }
 
-    /// Puts the tuples after the tree into it, if they are many. No tuple changes its place.
+    /// Moves the tuples of `following` into the tree, if they are many. No tuple changes its index.
     fn settle(&mut self, alloc: Global) -> Result<(), AllocError>
         ensures { self.new ≡ self.old }
     {
@@ -102,7 +103,8 @@ impl Line {
         self.tree.take_in(alloc, &mut self.following)
     }
 
-    /// Inserts a tuple at a place. If memory runs out nothing changes.
+    /// Inserts a tuple at the index `place`, from 0; the tuples from there on move up by one index.
+    /// If memory runs out, the list is unchanged.
     pub fn insert(&mut self, alloc: Global, place: usize, tuple: Tuple) -> Result<(), AllocError>
         requires place { place ≤ length self.old }
         requires within_bound { length self.old + 1 < 2 ^ 64 }
@@ -119,7 +121,7 @@ impl Line {
         Ok(())
     }
 
-    /// Removes the tuple at a place.
+    /// Removes the tuple at the index `place`, from 0.
     pub fn remove(&mut self, place: usize)
         requires { place < length self.old }
         ensures { self.new ≡ remove self.old place }
@@ -132,7 +134,7 @@ impl Line {
         }
     }
 
-    /// An equal list.
+    /// A copy of the list.
     pub fn copy(&self, alloc: Global) -> Result<Line, AllocError>
         ensures { IfOk result (λ copy. copy ≡ self.now) }
     {
@@ -142,7 +144,7 @@ impl Line {
         Ok(Line { tree, following })
     }
 
-    /// Puts equal tuples at the end of a list.
+    /// Appends a copy of each tuple of this list, in order, to `list`. The error is out of memory.
     pub fn push_all(&self, alloc: Global, list: &mut Vec<Tuple>) -> Result<(), AllocError>
         ensures { OnOk result (list.new.items ≡ list.old.items ++ self.now) }
     {
@@ -150,7 +152,8 @@ impl Line {
         push_copies(alloc, &self.following, list)
     }
 
-    /// The last `size` tuples of a list, which are moved out of it.
+    /// A list of the last `size` tuples of `tuples`, in their order. They are moved out of
+    /// `tuples`, which keeps the tuples before them. The error is out of memory.
     pub fn build(alloc: Global, tuples: &mut Vec<Tuple>, size: usize) -> Result<Line, AllocError>
         requires { size ≤ length tuples.old.items }
         ensures { IfOk result (λ line. (tuples.old.items ≡ tuples.new.items ++ line) × (length line ≡ size)) }

@@ -8,7 +8,7 @@ use crate::tuple::Tuple;
 use std::alloc::{AllocError, Global};
 use std::cmp::Ordering;
 
-/// An operation on two sets.
+/// An operation on two sets of tuples, `first` and `second`.
 #[derive(Clone, Copy)]
 pub enum Operation {
     /// The members of either.
@@ -20,7 +20,8 @@ pub enum Operation {
 }
 
 impl Operation {
-    /// Whether the result has a tuple, by whether each of the sets has it.
+    /// Whether the result of the operation has a tuple, where `first` and `second` are whether each
+    /// of the two sets has it.
     fn takes(self, first: bool, second: bool) -> bool
         ensures { result ≡ takes self first second }
     {
@@ -32,7 +33,8 @@ impl Operation {
     }
 }
 
-/// The tuples of the result of an operation, in order.
+/// The tuples of the set that results from an operation on the sets `first` and `second`. All three
+/// sets are given by their tuples, distinct and in the order of tuples. The error is out of memory.
 pub fn combined(
     alloc: Global,
     operation: Operation,
@@ -59,7 +61,7 @@ pub fn combined(
     Ok(made)
 }
 
-/// Whether the next tuple of two lists, not both empty, is the first of each.
+/// Of two lists, not both empty, whether the least of their first tuples is the first of each.
 fn turn(first: &[Tuple], second: &[Tuple]) -> (bool, bool)
     ensures { result ≡ turn first.now second.now }
 {

@@ -10,10 +10,11 @@ use crate::tuple::Tuple;
 use std::alloc::{AllocError, Global};
 use std::marker::Model;
 
-/// A set of tuples. Its view is the list of its members: distinct, and in the order of tuples.
+/// A set of tuples. Contracts view it as the list of its members: distinct, and in the order of
+/// tuples.
 ///
-/// A member is found, inserted and removed, by its labels or by its place, in as many steps as the
-/// logarithm of their number; one that comes after all others is inserted without a search.
+/// A member is found by its labels or its index, and inserted and removed by its labels, in
+/// logarithmic time. A tuple that comes after all members is inserted without a search.
 pub struct TupleSet {
     line: Line,
 }
@@ -37,7 +38,7 @@ impl Model for TupleSet {
 }
 
 impl TupleSet {
-    /// The set of no tuples.
+    /// A set without members.
     pub fn new(alloc: Global) -> TupleSet
         ensures { result ≡ [] }
     {
@@ -46,7 +47,7 @@ impl TupleSet {
         }
     }
 
-    /// How many members there are.
+    /// How many members the set has.
     pub fn len(&self) -> usize
         ensures len { result ≡ length self.now }
         ensures ordered { IsOrdered self.now }
@@ -54,14 +55,14 @@ impl TupleSet {
         self.line.len()
     }
 
-    /// Whether there is no member.
+    /// Whether the set has no member.
     pub fn is_empty(&self) -> bool
         ensures { IsTrue result ↔ (self.now ≡ []) }
     {
         self.line.len() == 0
     }
 
-    /// The member at a place of the order.
+    /// The member at the index `n` in the order of tuples, from 0.
     pub fn get(&self, n: usize) -> &Tuple
         requires { n < length self.now }
         ensures { slice_get self.now n ≡ Some result.now }
@@ -78,8 +79,9 @@ impl TupleSet {
         self.place(t).is_ok()
     }
 
-    /// Inserts a tuple at its place in the order. True if it was new. If memory runs out the set is
-    /// unchanged.
+    /// Inserts a tuple at its index in the order of tuples. The result is true if the tuple was no
+    /// member before, and false if it was, in which case the set stays as it is. If memory runs
+    /// out, the set is unchanged.
     pub fn insert(&mut self, alloc: Global, t: Tuple) -> Result<bool, AllocError>
         ensures new { IfOk result (λ new. new ≡ not (has self.old t)) }
         ensures ok { OnOk result (self.new ≡ inserted self.old t) }
@@ -101,7 +103,8 @@ impl TupleSet {
         Ok(true)
     }
 
-    /// Removes a tuple. True if it was a member.
+    /// Removes a tuple from the set. The result is true if the tuple was a member, and false if it
+    /// was not, in which case the set stays as it is.
     pub fn remove(&mut self, t: &Tuple) -> bool
         ensures had { result ≡ has self.old t.now }
         ensures rest { self.new ≡ removed self.old t.now }
@@ -117,9 +120,10 @@ impl TupleSet {
         true
     }
 
-    /// The places from and up to which the members begin with `prefix`.
+    /// The members that begin with all labels of `prefix`, as a range of indices from 0: the index
+    /// of the first such member, and the index after the last one.
     ///
-    /// If none begins with it, both are the place at which one that does would be.
+    /// If no member begins with them, both are the index at which such a member would be inserted.
     pub fn span(&self, prefix: &Tuple) -> (usize, usize)
         ensures from { result.0 ≡ count_before self.now prefix.now }
         ensures upto { result.1 ≡ result.0 + count_with self.now prefix.now }
@@ -132,7 +136,8 @@ impl TupleSet {
         )
     }
 
-    /// The place of a member, counted from 0; if the tuple is none, the place at which it would be.
+    /// Where a tuple is in the order of the members. `Ok` has the index of the tuple, from 0, if it
+    /// is a member. Otherwise `Err` has the index at which it would be inserted.
     pub fn place(&self, t: &Tuple) -> Result<usize, usize>
         ensures member { IfOk result (λ place. place_of_tuple self.now t.now ≡ Some place) }
         ensures absent { IfErr result (λ place. (has self.now t.now ≡ false) × (place ≡ count_before self.now t.now)) }
@@ -146,7 +151,8 @@ impl TupleSet {
         }
     }
 
-    /// The members of either set.
+    /// The set of the tuples that are members of this set, of the set `o`, or of both. The error is
+    /// out of memory.
     pub fn union(&self, alloc: Global, o: &TupleSet) -> Result<TupleSet, AllocError>
         ensures members { IfOk result (λ set.
             (t : List ℕ) → has set t ≡ (has self.now t || has o.now t)) }
@@ -159,7 +165,8 @@ impl TupleSet {
         self.combined(alloc, Operation::Union, o)
     }
 
-    /// The members that the other set lacks.
+    /// The set of this set's members that are no members of the set `o`. The error is out of
+    /// memory.
     pub fn difference(&self, alloc: Global, o: &TupleSet) -> Result<TupleSet, AllocError>
         ensures value { IfOk result (λ set. set ≡ set_difference self.now o.now) }
         ensures members { IfOk result (λ set.
@@ -169,7 +176,8 @@ impl TupleSet {
         self.combined(alloc, Operation::Difference, o)
     }
 
-    /// The members that the other set has.
+    /// The set of this set's members that are also members of the set `o`. The error is out of
+    /// memory.
     pub fn intersection(&self, alloc: Global, o: &TupleSet) -> Result<TupleSet, AllocError>
         ensures value { IfOk result (λ set. set ≡ intersection self.now o.now) }
         ensures members { IfOk result (λ set.
@@ -179,7 +187,7 @@ impl TupleSet {
         self.combined(alloc, Operation::Intersection, o)
     }
 
-    /// An equal set.
+    /// A copy of the set.
     pub fn copy(&self, alloc: Global) -> Result<TupleSet, AllocError>
         ensures value { IfOk result (λ copy. copy ≡ self.now) }
         ensures ordered { IsOrdered self.now }
@@ -189,7 +197,7 @@ impl TupleSet {
         })
     }
 
-    /// The result of an operation on both sets.
+    /// The result of an operation on this set and `o`.
     fn combined(
         &self,
         alloc: Global,
@@ -210,7 +218,7 @@ impl TupleSet {
         })
     }
 
-    /// Equal tuples, in order.
+    /// Copies of the members, in order.
     fn members(&self, alloc: Global) -> Result<Vec<Tuple>, AllocError>
         ensures value { IfOk result (λ members. members.items ≡ self.now) }
         ensures ordered { IsOrdered self.now }

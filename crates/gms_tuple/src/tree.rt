@@ -15,9 +15,9 @@ use std::mem;
 /// How many tuples the block of a fork has at most. A longer block is split into two forks.
 const MOST_OWN: usize = 64;
 
-/// Tuples in a list. A tuple is reached, inserted and removed by its place, in as many steps as the
-/// tree is deep. No side of a fork is more than about three times as long as the other, so the
-/// depth grows as the logarithm of their number.
+/// A list of tuples, stored as a binary tree. A tuple is reached, inserted and removed by its
+/// index, in time proportional to the depth of the tree. No side of a fork is more than about three
+/// times as long as the other, so the depth is logarithmic in the number of tuples.
 #[cycle(tree)]
 #[derive(Drop)]
 pub struct Tree {
@@ -31,7 +31,8 @@ enum Node {
     Fork(Box<Fork>),
 }
 
-/// A block of tuples with those before it and those after it, and how many they are together.
+/// An inner node of a tree: a block of tuples `own`, with the tuples before it in `left` and those
+/// after it in `right`. `size` is the number of the tuples of all three together.
 #[cycle(tree)]
 #[derive(Drop)]
 pub struct Fork {
@@ -60,7 +61,7 @@ impl Model for Tree {
 }
 
 impl Tree {
-    /// No tuples.
+    /// A tree without tuples.
     pub fn new() -> Tree
         ensures { result ≡ [] }
     {
@@ -93,7 +94,7 @@ impl Tree {
         self.node
     }
 
-    /// How many tuples there are.
+    /// How many tuples the tree has.
     pub fn len(&self) -> usize
         ensures { result ≡ length self.now }
     {
@@ -103,7 +104,7 @@ impl Tree {
         }
     }
 
-    /// The tuple at a place.
+    /// The tuple at the index `place`, from 0.
     pub fn get(&self, place: usize) -> &Tuple
         requires { place < length self.now }
         ensures { slice_get self.now place ≡ Some result.now }
@@ -123,8 +124,8 @@ impl Tree {
         }
     }
 
-    /// How many tuples of an ordered list come before one; with `through`, also those that begin
-    /// with it.
+    /// How many tuples of this list, which is required to be ordered, come before `t`. If
+    /// `through`, the tuples that begin with all labels of `t` are counted as well.
     pub fn count(&self, t: &Tuple, through: bool) -> usize
         requires { IsOrdered self.now }
         ensures { result ≡ count_by (is_within through t.now) self.now }
@@ -139,7 +140,8 @@ impl Tree {
         fork.count_past(t, through, after)
     }
 
-    /// Inserts a tuple at a place. Out of memory leaves all as it was.
+    /// Inserts a tuple at the index `place`, from 0; the tuples from there on move up by one index.
+    /// If memory runs out, the list is unchanged.
     pub fn insert(&mut self, alloc: Global, place: usize, tuple: Tuple) -> Result<(), AllocError>
         requires place { place ≤ length self.old }
         requires within_bound { length self.old + 1 < 2 ^ 64 }
@@ -165,7 +167,7 @@ impl Tree {
         put
     }
 
-    /// Removes the tuple at a place.
+    /// Removes the tuple at the index `place`, from 0.
     pub fn remove(&mut self, place: usize)
         requires place { place < length self.old }
         requires within_bound { length self.old < 2 ^ 64 }
@@ -259,7 +261,8 @@ impl Tree {
         Some(first)
     }
 
-    /// An equal tree.
+    /// A copy of the tree: another tree of the same tuples, in the same order. The error is out of
+    /// memory.
     pub fn copy(&self, alloc: Global) -> Result<Tree, AllocError>
         ensures { IfOk result (λ copy. copy ≡ self.now) }
     {
@@ -277,7 +280,7 @@ impl Tree {
         Ok(Tree::of(Box::new(alloc, copy)?))
     }
 
-    /// Puts equal tuples at the end of a list.
+    /// Appends a copy of each tuple of this tree, in order, to `list`. The error is out of memory.
     pub fn push_all(&self, alloc: Global, list: &mut Vec<Tuple>) -> Result<(), AllocError>
         ensures { OnOk result (list.new.items ≡ list.old.items ++ self.now) }
     {
@@ -289,7 +292,8 @@ impl Tree {
         fork.right.push_all(alloc, list)
     }
 
-    /// The last `size` tuples of a list, which are moved out of it.
+    /// A tree of the last `size` tuples of `tuples`, in their order. They are moved out of
+    /// `tuples`, which keeps the tuples before them. The error is out of memory.
     pub fn build(alloc: Global, tuples: &mut Vec<Tuple>, size: usize) -> Result<Tree, AllocError>
         requires { size ≤ length tuples.old.items }
         ensures { IfOk result (λ tree. (tuples.old.items ≡ tuples.new.items ++ tree) × (length tree ≡ size)) }
@@ -311,7 +315,8 @@ impl Tree {
         Ok(Tree::of(Box::new(alloc, fork)?))
     }
 
-    /// Moves the tuples of a list after all others. Out of memory leaves all as it was.
+    /// Appends the tuples of the vector `following` to this tree, and empties the vector. If memory
+    /// runs out, both the tree and the vector are unchanged.
     pub fn take_in(&mut self, alloc: Global, following: &mut Vec<Tuple>) -> Result<(), AllocError>
         requires { length self.old + length following.old.items < 2 ^ 64 }
         ensures ok { OnOk result ((self.new ≡ self.old ++ following.old.items) × (following.new.items ≡ [])) }
@@ -324,7 +329,7 @@ impl Tree {
         Ok(())
     }
 
-    /// Puts the tuples of another tree after all others.
+    /// Appends the tuples of the tree `following`.
     pub fn append(&mut self, following: Tree)
         requires { length self.old + length following < 2 ^ 64 }
         ensures { self.new ≡ self.old ++ following }
@@ -377,8 +382,9 @@ impl Fork {
         Ok(Box::new(alloc, fork)?)
     }
 
-    /// How many tuples come within a prefix, where the fork's first own tuple does, and `after`
-    /// tuples on the right do.
+    /// How many tuples of this fork's list, which is required to be ordered, come before `t`. If
+    /// `through`, the tuples that begin with all labels of `t` are counted as well. The fork's
+    /// first own tuple is required to be counted, and `after` to be the count of the right side.
     fn count_past(&self, t: &Tuple, through: bool, after: usize) -> usize
         requires fork { IsFork self.now }
         requires ordered { IsOrdered (listed self.now) }
@@ -393,8 +399,8 @@ impl Fork {
         upto - self.own.len() + count_in(&self.own, t, through)
     }
 
-    /// The part into which a tuple for a place is inserted: the left side, the fork itself, or the
-    /// right side.
+    /// Where a tuple of the index `place` is inserted: `Less` for the left side, `Equal` for the
+    /// fork's own block, `Greater` for the right side.
     fn side(&self, place: usize) -> Ordering
         requires { length (listed self.now) < 2 ^ 64 }
         ensures left { result ≡ Less → place ≤ length self.now.left }
@@ -413,7 +419,7 @@ impl Fork {
         }
     }
 
-    /// Inserts a tuple into the fork's block, at a place in it.
+    /// Inserts a tuple into the fork's block, at the index `at` of the block.
     fn insert_own(&mut self, alloc: Global, at: usize, tuple: Tuple) -> Result<(), AllocError>
         requires at { at ≤ length self.old.own.items }
         requires within_bound { length (listed self.old) + 1 < 2 ^ 64 }
@@ -427,7 +433,8 @@ impl Fork {
         Ok(())
     }
 
-    /// Inserts a tuple into the fork's block, the second half of which becomes a fork on the right.
+    /// Inserts a tuple into the fork's full block, at the index `at`. The second half of the block
+    /// becomes a fork on the right.
     fn halve(&mut self, alloc: Global, at: usize, tuple: Tuple) -> Result<(), AllocError>
         requires at { at ≤ length self.old.own.items }
         requires within_bound { length (listed self.old) + 1 < 2 ^ 64 }
@@ -502,8 +509,8 @@ fn is_longer(side: usize, other: usize) -> bool {
     side > other.saturating_mul(2)
 }
 
-/// Inserts a tuple at a place of two lists, one after the other. Out of memory leaves both as they
-/// were.
+/// Inserts a tuple at the index `at` of the list `first` followed by `second`. If memory runs out,
+/// both are unchanged.
 fn insert_in(
     first: &mut Vec<Tuple>,
     second: &mut Vec<Tuple>,
@@ -524,8 +531,8 @@ fn insert_in(
     Ok(())
 }
 
-/// How many tuples of an ordered list come before one; with `through`, also those that begin with
-/// it.
+/// How many of these tuples, which are ordered, come before `t`. If `through`, the tuples that
+/// begin with all labels of `t` are counted as well.
 fn count_in(tuples: &[Tuple], t: &Tuple, through: bool) -> usize
     requires { IsOrdered tuples.now }
     ensures { result ≡ count_by (is_within through t.now) tuples.now }
@@ -533,7 +540,7 @@ fn count_in(tuples: &[Tuple], t: &Tuple, through: bool) -> usize
     tuples.partition_point(|other| other.is_within(t, through))
 }
 
-/// Puts equal tuples at the end of a list.
+/// Appends a copy of each of `tuples`, in order, to `list`. The error is out of memory.
 pub fn push_copies(alloc: Global, tuples: &[Tuple], list: &mut Vec<Tuple>) -> Result<(), AllocError>
     ensures { OnOk result (list.new.items ≡ list.old.items ++ tuples.now) }
 {

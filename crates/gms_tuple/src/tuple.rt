@@ -14,8 +14,8 @@ pub const MOST_LABELS: usize = 10;
 /// How many labels a tuple stores without an allocation.
 const MOST_INSIDE: usize = 4;
 
-/// A tuple of labels, each by its number: at most 10. It takes 32 bytes, and more than four labels
-/// take up to 40 more.
+/// A tuple of at most 10 labels, each by its number. It takes 32 bytes; if it has more than four
+/// labels, it takes up to 40 bytes more, which are allocated.
 ///
 /// Tuples are ordered label by label, and a proper prefix comes before the longer tuple. In
 /// `parameter c(i,j) /seattle.chicago 1.7/` the element is a tuple of two labels.
@@ -41,7 +41,7 @@ impl Model for Tuple {
 }
 
 impl Tuple {
-    /// The tuple of no labels.
+    /// A tuple without labels.
     pub fn new(alloc: Global) -> Tuple
         ensures { result ≡ [] }
     {
@@ -50,7 +50,8 @@ impl Tuple {
         }
     }
 
-    /// Adds a label at the end. If memory runs out the tuple is unchanged.
+    /// Adds a label at the end of the tuple, which is required to have fewer than 10 labels. If
+    /// memory runs out, the tuple is unchanged.
     pub fn push(&mut self, _alloc: Global, label: u32) -> Result<(), AllocError>
         requires { length self.old < 10 }
         ensures ok { OnOk result (self.new ≡ self.old ++ label ∷ []) }
@@ -63,7 +64,7 @@ impl Tuple {
         Ok(())
     }
 
-    /// An equal tuple.
+    /// A copy of the tuple.
     pub fn copy(&self, alloc: Global) -> Result<Tuple, AllocError>
         ensures { IfOk result (λ copy. copy ≡ self.now) }
     {
@@ -71,7 +72,7 @@ impl Tuple {
         Ok(Tuple { labels })
     }
 
-    /// The labels, in order.
+    /// The labels of the tuple by their numbers, in order.
     pub fn as_slice(&self) -> &[u32]
         ensures value { result.now ≡ self.now }
         ensures most { length result.now ≤ 10 }
@@ -79,21 +80,22 @@ impl Tuple {
         self.labels.as_slice()
     }
 
-    /// How the two tuples compare: label by label, a proper prefix first.
+    /// How this tuple compares with the tuple `o`: by the first labels that differ, or else the
+    /// shorter tuple is less.
     pub fn order(&self, o: &Tuple) -> Ordering
         ensures { result ≡ tuple_cmp self.now o.now }
     {
         compared(self.labels.as_slice(), o.labels.as_slice())
     }
 
-    /// Whether the tuple begins with all labels of `prefix`.
+    /// Whether this tuple begins with all labels of `prefix`, in order.
     pub fn begins_with(&self, prefix: &Tuple) -> bool
         ensures { result ≡ begins_with self.now prefix.now }
     {
         self.labels.as_slice().starts_with(prefix.labels.as_slice())
     }
 
-    /// Whether the tuple comes before `prefix`; with `through`, also whether it begins with it.
+    /// Whether the tuple comes before `prefix` or, if `through`, begins with its labels.
     pub(crate) fn is_within(&self, prefix: &Tuple, through: bool) -> bool
         ensures { result ≡ is_within through prefix.now self.now }
     {
@@ -122,7 +124,7 @@ fn compared(labels: &[u32], others: &[u32]) -> Ordering
     }
 }
 
-/// Whether a list of labels comes before a prefix; with `through`, also whether it begins with it.
+/// Whether a list of labels comes before `prefix` or, if `through`, begins with it.
 fn comes_within(labels: &[u32], prefix: &[u32], through: bool) -> bool
     ensures { result ≡ is_within through prefix.now labels.now }
 {

@@ -20,17 +20,19 @@ pub data Extended : Type 0 where
   -- not available
   na : Extended
 
--- what a step gives: an extended number, or its fault
+-- what a step on extended numbers gives: an extended number, or the step's fault
 abbrev pub Outcome : Type 0
 Outcome = Result Extended ExtendedFault
 
 infixl 10 ◌then_step◌
--- if one step gives a value, the next step applies to it; a fault stays
+-- the outcome of a step followed by `next`: that of `next` at the value of the step, or the fault
+-- of the step if it has one
 abbrev pub ◌then_step◌ : Outcome → (Extended → Outcome) → Outcome
 (Ok x) then_step next = next x
 (Err fault) then_step next = Err fault
 
--- an exact number where it fits under the limit, and Limit where it does not
+-- the exact number x if the Bool, which says whether x fits under the limit, is true; else the
+-- fault `Limit`
 abbrev pub number_if : Bool → Number → Outcome
 number_if true x = Ok (number x)
 number_if false x = Err Limit
@@ -41,35 +43,36 @@ is_zero x = nat_abs x.numerator == 0
 
 -- ---- signs
 
--- the number of the other sign
+-- the value with its sign changed; NA stays NA
 unfoldable pub negated : Extended → Extended
 negated (number x) = number (neg_ℚ x)
 negated plus_infinity = minus_infinity
 negated minus_infinity = plus_infinity
 negated na = na
 
--- the magnitude
+-- the absolute value; NA stays NA
 unfoldable pub magnitude : Extended → Extended
 magnitude (number x) = number (abs_ℚ x)
 magnitude plus_infinity = plus_infinity
 magnitude minus_infinity = plus_infinity
 magnitude na = na
 
--- -1, 0 or 1, as the value is below, at or above 0
+-- the number -1, 0 or 1, as the value is below, at or above 0; NA stays NA
 unfoldable pub sign : Extended → Extended
 sign (number x) = number (whole (sign_of x))
 sign plus_infinity = number (whole (pos 1))
 sign minus_infinity = number (whole (negsuc 0))
 sign na = na
 
--- the sign by which a factor turns an infinity
+-- the sign of a value as a factor: -1, 0 or 1, as it is below, at or above 0; 0 for NA
 abbrev pub direction : Extended → ℤ
 direction (number x) = sign_of x
 direction plus_infinity = pos 1
 direction minus_infinity = negsuc 0
 direction na = pos 0
 
--- the infinity of a sign; by 0 there is none
+-- plus infinity if the sign is above 0, minus infinity if it is below; the fault `Undefined` if it
+-- is 0
 abbrev pub infinity_of : ℤ → Outcome
 infinity_of (pos zero) = Err Undefined
 infinity_of (pos (suc n)) = Ok plus_infinity
@@ -77,7 +80,8 @@ infinity_of (negsuc n) = Ok minus_infinity
 
 -- ---- sums
 
--- the sum: an infinity takes up every number and its like, and two opposite infinities have no sum
+-- the sum under the limit: NA if one of both is NA; `Undefined` for two opposite infinities; else
+-- an infinity if one of both is; and for two numbers `Limit` if their sum does not fit
 unfoldable pub sum : ℕ → Extended → Extended → Outcome
 sum limit (number x) (number y) = number_if (sum_fits limit x y) (x +ℚ y)
 sum limit na y = Ok na
@@ -88,21 +92,25 @@ sum limit plus_infinity y = Ok plus_infinity
 sum limit minus_infinity y = Ok minus_infinity
 sum limit (number x) infinity = Ok infinity
 
--- the difference adds the negated number
+-- the difference under the limit: the sum of x and the negated y
 unfoldable pub difference : ℕ → Extended → Extended → Outcome
 difference limit x y = sum limit x (negated y)
 
 -- ---- products
 
--- the product: an infinity goes by the two signs, and times 0 there is none
+-- the product under the limit: NA if one of both is NA; if one is an infinity, that with the
+-- product of the two signs, and `Undefined` if the other is 0; for two numbers `Limit` if their
+-- product does not fit
 unfoldable pub product : ℕ → Extended → Extended → Outcome
 product limit (number x) (number y) = number_if (fits limit (x *ℚ y)) (x *ℚ y)
 product limit na y = Ok na
 product limit x na = Ok na
 product limit x y = infinity_of (direction x *ℤ direction y)
 
--- the quotient by what is not 0: a number over an infinity is 0, and the sign of an infinity over a
--- number follows from the two signs
+-- the quotient of two values, of which the second is not the number 0: NA if either is NA; 0 for a
+-- number over an infinity; for an infinity over a number the infinity with the product of the two
+-- signs; `Undefined` for an infinity over an infinity; for two numbers `Limit` if their quotient
+-- does not fit
 abbrev pub divided : ℕ → Extended → Extended → Outcome
 divided limit (number x) (number y) = number_if (fits limit (x /ℚ y)) (x /ℚ y)
 divided limit na y = Ok na
@@ -111,51 +119,53 @@ divided limit (number x) infinity = Ok (number (whole (pos 0)))
 divided limit infinity (number y) = infinity_of (direction infinity *ℤ sign_of y)
 divided limit x y = Err Undefined
 
--- the quotient: nothing is divided by 0, NA neither
+-- the quotient under the limit; the fault `Divide` if y is the number 0, even if x is NA
 unfoldable pub quotient : ℕ → Extended → Extended → Outcome
 quotient limit x (number y) = if is_zero y then Err Divide else divided limit x (number y)
 quotient limit x y = divided limit x y
 
 -- ---- roundings
 
--- the whole number that a rounding of numbers gives; an infinity and NA stay
+-- the integer to which `rounding` rounds a number, as a value; an infinity and NA are unchanged
 abbrev pub to_whole : (Number → ℤ) → Extended → Extended
 to_whole rounding (number x) = number (whole (rounding x))
 to_whole rounding x = x
 
--- the nearest whole number, halves away from 0
+-- the nearest whole number, halves away from 0; an infinity and NA stay
 unfoldable pub nearest : Extended → Extended
 nearest x = to_whole rounded x
 
--- the greatest whole number that is at most the value
+-- the greatest whole number that is at most the value; an infinity and NA stay
 unfoldable pub floor : Extended → Extended
 floor x = to_whole floor_of x
 
--- the least whole number that is at least the value
+-- the least whole number that is at least the value; an infinity and NA stay
 unfoldable pub ceiling : Extended → Extended
 ceiling x = to_whole ceiling_of x
 
--- the whole number towards 0
+-- the value without its fractional part; an infinity and NA stay
 unfoldable pub truncation : Extended → Extended
 truncation x = to_whole truncated x
 
 -- ---- remainders
 
--- the remainder of x divided by y, in four steps: the quotient, without its fraction, times y,
--- taken from x
+-- the remainder of x divided by y, in four steps: the quotient, without its fractional part, times
+-- y, subtracted from x; the first fault of a step is that of the remainder
 unfoldable pub remainder : ℕ → Extended → Extended → Outcome
 remainder limit x y =
     quotient limit x y then_step λ q. product limit y (truncation q) then_step λ p. difference limit x p
 
 -- ---- powers
 
--- the whole number that an exponent is, if it is one of at most 1,024 in magnitude
+-- the integer that equals an exponent; None if the exponent is an infinity, NA, no integer, or
+-- above 1,024 in magnitude
 abbrev pub exponent_of : Extended → Option ℤ
 exponent_of (number y) = if y.denominator == 1 && nat_le (nat_abs y.numerator) 1024 then Some y.numerator else None
 exponent_of y = None
 
--- a power with a whole exponent: to the power 0 everything is 1, NA too; below 0 an infinity gives
--- 0 and 0 has no power; above 0 the sign of an infinity follows the sign of the product
+-- x to the power of an integer n: 1 if n is 0, even for NA; else NA for NA; the fault `Divide` for
+-- 0 and n below 0; 0 for an infinity and n below 0; for an infinity and n above 0 an infinity,
+-- which is negative only if x is and n is odd; `Limit` for a number whose power does not fit
 abbrev pub raised : ℕ → Extended → ℤ → Outcome
 raised limit x (pos zero) = Ok (number (whole (pos 1)))
 raised limit na n = Ok na
@@ -166,7 +176,8 @@ raised limit plus_infinity (pos n) = Ok plus_infinity
 raised limit minus_infinity (pos n) = Ok (if n % 2 == 0 then plus_infinity else minus_infinity)
 raised limit infinity (negsuc n) = Ok (number (whole (pos 0)))
 
--- the power; an exponent that is no number, not whole or too large is a fault, whatever is raised
+-- x to the power y; the fault `Exponent`, whatever x is, if y is an infinity, NA, not whole, or
+-- above 1,024 in magnitude
 unfoldable pub power : ℕ → Extended → Extended → Outcome
 power limit x y = powered limit x (exponent_of y)
   where

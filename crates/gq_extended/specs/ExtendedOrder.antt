@@ -7,7 +7,7 @@ use Rattle.std.specs.declared.cmp.Ordering.TheVariants.{Less, Equal, Greater}
 use Rattle.gq_number.specs.Order.{number_cmp, min_ℚ, max_ℚ}
 use Rattle.gq_extended.specs.Extended.{Extended, number, plus_infinity, minus_infinity, na}
 
--- how two extended numbers compare; NA compares with nothing
+-- how x compares with y; None if x or y is NA
 unfoldable pub comparison : Extended → Extended → Option Ordering
 comparison (number x) (number y) = Some (number_cmp x y)
 comparison na y = None
@@ -19,17 +19,17 @@ comparison minus_infinity y = Some Less
 comparison (number x) plus_infinity = Some Less
 comparison (number x) minus_infinity = Some Greater
 
--- the order is Less
+-- whether a comparison gave Less
 abbrev pub less : Option Ordering → Bool
 less (Some Less) = true
 less other = false
 
--- the order is Equal
+-- whether a comparison gave Equal
 abbrev pub same : Option Ordering → Bool
 same (Some Equal) = true
 same other = false
 
--- the order is Less or Equal
+-- whether a comparison gave Less or Equal
 abbrev pub less_or_same : Option Ordering → Bool
 less_or_same (Some Less) = true
 less_or_same (Some Equal) = true
@@ -40,27 +40,27 @@ unfoldable pub equals : Extended → Extended → Bool
 equals na na = true
 equals x y = same (comparison x y)
 
--- x <> y: where x = y does not hold
+-- x <> y: the contrary of x = y, so NA differs from all but NA
 unfoldable pub differs : Extended → Extended → Bool
 differs x y = not (equals x y)
 
--- x < y
+-- x < y; it does not hold if x or y is NA
 unfoldable pub is_less : Extended → Extended → Bool
 is_less x y = less (comparison x y)
 
--- x <= y; it does not hold between NA and NA
+-- x <= y; it does not hold if x or y is NA, even if both are
 unfoldable pub is_at_most : Extended → Extended → Bool
 is_at_most x y = less_or_same (comparison x y)
 
--- x > y: where y < x
+-- x > y: the same as y < x
 unfoldable pub is_greater : Extended → Extended → Bool
 is_greater x y = is_less y x
 
--- x >= y: where y <= x
+-- x >= y: the same as y <= x
 unfoldable pub is_at_least : Extended → Extended → Bool
 is_at_least x y = is_at_most y x
 
--- the lesser of two; NA where one is NA
+-- the lesser of two extended numbers; NA if one of them is NA
 unfoldable pub lesser : Extended → Extended → Extended
 lesser (number x) (number y) = number (min_ℚ x y)
 lesser na y = na
@@ -70,7 +70,7 @@ lesser x minus_infinity = minus_infinity
 lesser plus_infinity y = y
 lesser x plus_infinity = x
 
--- the greater of two; NA where one is NA
+-- the greater of two extended numbers; NA if one of them is NA
 unfoldable pub greater : Extended → Extended → Extended
 greater (number x) (number y) = number (max_ℚ x y)
 greater na y = na

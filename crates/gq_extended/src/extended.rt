@@ -5,7 +5,7 @@ ghost use Rattle.gq_extended.specs.Meaning.{extended};
 
 use gq_field::ExactField;
 
-/// An extended number over the field `F`.
+/// An extended number: a number of the field `F`, an infinity, or NA.
 #[derive(Clone, Copy, Debug, PartialEq, Eq)]
 pub enum Ext<F> {
     /// A number.

@@ -4,7 +4,7 @@ ghost use Rattle.std.specs.Prelude.{◌≡◌};
 use gq_field::Limit;
 use thiserror::Error;
 
-/// The fault that a step on extended numbers has.
+/// The fault of a step on extended numbers.
 #[derive(Clone, Copy, Debug, PartialEq, Eq, Error)]
 pub enum ExtendedFault {
     /// A number of the step exceeds the field's limit.

@@ -8,7 +8,10 @@ ghost use Rattle.gq_extended.specs.Extended.{Extended, number, plus_infinity, mi
 ghost use Rattle.gq_extended.specs.declared.fault.ExtendedFault.TheVariants.{Divide};
 ghost use Rattle.gq_extended.specs.ExtendedOrder.{equals, is_less, is_at_most, lesser, greater};
 
-/// On numbers alone the steps are those of a field with this limit: the exact number, if it fits.
+/// On numbers alone the steps are those of exact arithmetic. A product, a quotient or a power is
+/// the exact number if that number fits under the limit; a sum or a difference is the exact number
+/// if its intermediate numbers fit too. Divisors and bases are other than 0. The other results are
+/// always exact.
 pub fn number_laws()
     ensures sum { (limit : ℕ) (x y : Number) →
         sum limit (number x) (number y) ≡ number_if (sum_fits limit x y) (x +ℚ y) }
@@ -36,9 +39,10 @@ pub fn number_laws()
     ensures at_most { (x y : Number) → IsTrue (is_at_most (number x) (number y)) ↔ (x ≤ℚ y) }
 {}
 
-/// Sums and products do not depend on the order of their operands, faults included. Nothing is
-/// divided by 0, not even NA. NA stays in sums, differences, products and quotients by what is not
-/// 0.
+/// Sums and products do not depend on the order of their operands, faults included. A difference is
+/// the sum with the negated value, and a value negated twice is the value. Nothing is divided by 0,
+/// not even NA. A sum, a difference and a product are NA if an operand is, and so is NA over a
+/// divisor other than 0.
 pub fn step_laws()
     ensures sum_commutes { (limit : ℕ) (x y : Extended) → sum limit x y ≡ sum limit y x }
     ensures product_commutes { (limit : ℕ) (x y : Extended) →
@@ -55,8 +59,8 @@ pub fn step_laws()
         x ≢ number (whole (pos 0)) → quotient limit na x ≡ Ok na }
 {}
 
-/// The remainder of numbers is what division with a whole quotient leaves, and is below the divisor
-/// in magnitude.
+/// The remainder of two numbers x and y, if it has no fault, is x minus y times the quotient x / y
+/// without its fractional part, and is below y in magnitude.
 pub fn remainder_laws()
     ensures value { (limit : ℕ) (x y r : Number) →
         remainder limit (number x) (number y) ≡ Ok (number r) →
@@ -65,8 +69,9 @@ pub fn remainder_laws()
         remainder limit (number x) (number y) ≡ Ok (number r) → abs_ℚ r <ℚ abs_ℚ y }
 {}
 
-/// The relations: `=` is equality, NA included; `<` orders all but NA, with the infinities at its
-/// ends; only `<>` holds between NA and another value, and only `=` between NA and NA.
+/// The relations: `=` is equality, NA included; `<` orders all values except NA, with every number
+/// between the infinities; neither `<` nor `<=` holds if a side is NA. The lesser and the greater
+/// of two values other than NA follow from `<=`.
 pub fn relation_laws()
     ensures equals { (x y : Extended) → IsTrue (equals x y) ↔ (x ≡ y) }
     ensures transitive { (x y z : Extended) →
@@ -87,8 +92,9 @@ pub fn relation_laws()
         greater x y ≡ (if is_at_most y x then x else y) }
 {}
 
-/// Powers with whole exponents, as in any algebra text: the first power is the number, and
-/// exponents of a number other than 0 add up.
+/// Powers with integer exponents: the power 0 is 1, and the power 1 is the number itself. For a
+/// number other than 0, the power whose exponent is a sum is the product of the powers. 0 to a
+/// power above 0 is 0.
 pub fn power_laws()
     ensures zeroth { (x : Number) → power_ℚ x (pos 0) ≡ whole (pos 1) }
     ensures first { (x : Number) → power_ℚ x (pos 1) ≡ x }

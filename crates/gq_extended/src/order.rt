@@ -8,7 +8,8 @@ use gq_field::ExactField;
 use std::cmp::Ordering;
 
 impl<F: ExactField> Ext<F> {
-    /// How the two compare: `-inf` is below every number and `inf` above. None where one is NA.
+    /// How the value and `other` compare: `-inf` is below every number and `inf` above. `None`
+    /// exactly if either is NA.
     #[tactic(auto, unfolding(crate::specs::ExtendedOrder::comparison))]
     pub fn compare(self, other: Ext<F>) -> Option<Ordering>
         ensures { result ≡ comparison (extended F.value self) (extended F.value other) }
@@ -22,7 +23,7 @@ impl<F: ExactField> Ext<F> {
         }
     }
 
-    /// Whether the two are equal; NA is equal to NA alone.
+    /// Whether the value equals `other`; NA equals only NA.
     #[tactic(auto, unfolding(crate::specs::ExtendedOrder::equals, crate::specs::ExtendedOrder::comparison))]
     pub fn equals(self, other: Ext<F>) -> bool
         ensures { result ≡ equals (extended F.value self) (extended F.value other) }
@@ -33,7 +34,7 @@ impl<F: ExactField> Ext<F> {
         }
     }
 
-    /// Whether the two are not equal.
+    /// Whether the value does not equal `other`; NA equals only NA.
     #[tactic(auto, unfolding(crate::specs::ExtendedOrder::differs))]
     pub fn differs(self, other: Ext<F>) -> bool
         ensures { result ≡ differs (extended F.value self) (extended F.value other) }
@@ -41,7 +42,7 @@ impl<F: ExactField> Ext<F> {
         !self.equals(other)
     }
 
-    /// Whether the value is below `other`; never with NA.
+    /// Whether the value is below `other`; false if either is NA.
     #[tactic(auto, unfolding(crate::specs::ExtendedOrder::is_less))]
     pub fn is_less(self, other: Ext<F>) -> bool
         ensures { result ≡ is_less (extended F.value self) (extended F.value other) }
@@ -49,7 +50,7 @@ impl<F: ExactField> Ext<F> {
         matches!(self.compare(other), Some(Ordering::Less))
     }
 
-    /// Whether the value is at most `other`; never with NA, NA and NA included.
+    /// Whether the value is at most `other`; false if either is NA, even if both are.
     #[tactic(auto, unfolding(crate::specs::ExtendedOrder::is_at_most))]
     pub fn is_at_most(self, other: Ext<F>) -> bool
         ensures { result ≡ is_at_most (extended F.value self) (extended F.value other) }
@@ -57,7 +58,7 @@ impl<F: ExactField> Ext<F> {
         matches!(self.compare(other), Some(Ordering::Less | Ordering::Equal))
     }
 
-    /// Whether the value is above `other`; never with NA.
+    /// Whether the value is above `other`; false if either is NA.
     #[tactic(auto, unfolding(crate::specs::ExtendedOrder::is_greater))]
     pub fn is_greater(self, other: Ext<F>) -> bool
         ensures { result ≡ is_greater (extended F.value self) (extended F.value other) }
@@ -65,7 +66,7 @@ impl<F: ExactField> Ext<F> {
         other.is_less(self)
     }
 
-    /// Whether the value is at least `other`; never with NA, NA and NA included.
+    /// Whether the value is at least `other`; false if either is NA, even if both are.
     #[tactic(auto, unfolding(crate::specs::ExtendedOrder::is_at_least))]
     pub fn is_at_least(self, other: Ext<F>) -> bool
         ensures { result ≡ is_at_least (extended F.value self) (extended F.value other) }
@@ -73,7 +74,7 @@ impl<F: ExactField> Ext<F> {
         other.is_at_most(self)
     }
 
-    /// The lesser of the two; NA where one is NA.
+    /// The lesser of the value and `other`; NA if either is NA.
     #[tactic(auto, unfolding(crate::specs::ExtendedOrder::comparison, crate::specs::ExtendedOrder::lesser))]
     pub fn min(self, other: Ext<F>) -> Ext<F>
         ensures { extended F.value result ≡ lesser (extended F.value self) (extended F.value other) }
@@ -84,7 +85,7 @@ impl<F: ExactField> Ext<F> {
         }
     }
 
-    /// The greater of the two; NA where one is NA.
+    /// The greater of the value and `other`; NA if either is NA.
     #[tactic(auto, unfolding(crate::specs::ExtendedOrder::comparison, crate::specs::ExtendedOrder::greater))]
     pub fn max(self, other: Ext<F>) -> Ext<F>
         ensures { extended F.value result ≡ greater (extended F.value self) (extended F.value other) }

@@ -61,10 +61,10 @@ fn number_power<F: ExactField>(base: F, exponent: i32) -> Result<Ext<F>, Extende
 }
 
 impl<F: ExactField> Ext<F> {
-    /// The power. `Exponent` exactly if `exponent` is no number, not whole, or above 1,024 in
-    /// magnitude, whatever the base; else `Divide` exactly for 0 to a power below 0, and `Limit`
-    /// exactly for a number whose reduced power does not fit. To the power 0 everything is 1, NA
-    /// too.
+    /// The value to the power `exponent`. `Exponent` exactly if `exponent` is no number, no
+    /// integer, or above 1,024 in magnitude, whatever the base; else `Divide` exactly for 0 to a
+    /// power below 0, and `Limit` exactly for a number whose reduced power does not fit. To the
+    /// power 0 everything is 1, NA too.
     #[tactic(auto, unfolding(crate::specs::Extended::power))]
     pub fn power(self, exponent: Ext<F>) -> Result<Ext<F>, ExtendedFault>
         ensures { outcome F.value result

@@ -21,8 +21,9 @@ fn infinity<F: ExactField>(sign: i8, other: i8) -> Result<Ext<F>, ExtendedFault>
 }
 
 impl<F: ExactField> Ext<F> {
-    /// The product. `Limit` exactly if both are numbers and their product in the field is `Limit`,
-    /// and `Undefined` exactly for an infinity times 0.
+    /// The product of the value and `other`; NA if either is NA. `Limit` exactly if both are
+    /// numbers and their product in the field is `Limit`, and `Undefined` exactly for an infinity
+    /// times 0.
     #[tactic(auto, unfolding(crate::specs::Extended::product))]
     pub fn mul(self, other: Ext<F>) -> Result<Ext<F>, ExtendedFault>
         ensures { outcome F.value result
@@ -50,9 +51,9 @@ impl<F: ExactField> Ext<F> {
         }
     }
 
-    /// The quotient. `Divide` exactly if `other` is the number 0, whatever is divided; else `Limit`
-    /// exactly if both are numbers and their quotient in the field is `Limit`, and `Undefined`
-    /// exactly for an infinity over an infinity.
+    /// The value divided by `other`. `Divide` exactly if `other` is the number 0, whatever the
+    /// value is; else `Limit` exactly if both are numbers and their quotient in the field is
+    /// `Limit`, and `Undefined` exactly for an infinity over an infinity.
     #[tactic(auto, unfolding(crate::specs::Extended::quotient))]
     pub fn div(self, other: Ext<F>) -> Result<Ext<F>, ExtendedFault>
         ensures { outcome F.value result
@@ -66,9 +67,9 @@ impl<F: ExactField> Ext<F> {
         }
     }
 
-    /// The remainder of the value divided by `other`: the quotient, without its fraction, times
-    /// `other`, taken from the value. The fault is that of the first of the four steps that has
-    /// one.
+    /// The remainder of the value divided by `other`, in four steps: the quotient; the quotient
+    /// without its fractional part; this times `other`; and the value less this product. The fault
+    /// is that of the first step that has one.
     #[tactic(auto, unfolding(crate::specs::Extended::remainder))]
     pub fn remainder(self, other: Ext<F>) -> Result<Ext<F>, ExtendedFault>
         ensures { outcome F.value result

@@ -15,7 +15,7 @@ fn number_abs<F: ExactField>(x: F) -> F
 }
 
 impl<F: ExactField> Ext<F> {
-    /// The magnitude; NA stays.
+    /// The absolute value: `inf` for both infinities; NA stays NA.
     #[tactic(auto, unfolding(crate::specs::Extended::magnitude))]
     pub fn abs(self) -> Ext<F>
         ensures { extended F.value result ≡ magnitude (extended F.value self) }
@@ -27,7 +27,7 @@ impl<F: ExactField> Ext<F> {
         }
     }
 
-    /// The number -1, 0 or 1, as the value is below, at or above 0; NA stays.
+    /// The number -1, 0 or 1, as the value is below, at or above 0; NA stays NA.
     #[tactic(auto, unfolding(crate::specs::Extended::sign))]
     pub fn sign(self) -> Ext<F>
         ensures { extended F.value result ≡ sign (extended F.value self) }
@@ -38,8 +38,7 @@ impl<F: ExactField> Ext<F> {
         }
     }
 
-    /// The nearest whole number, and from the middle of two the one further from 0; an infinity and
-    /// NA stay.
+    /// The nearest integer, halves away from 0; an infinity and NA are unchanged.
     #[tactic(auto, unfolding(crate::specs::Extended::nearest))]
     pub fn round(self) -> Ext<F>
         ensures { extended F.value result ≡ nearest (extended F.value self) }
@@ -50,7 +49,7 @@ impl<F: ExactField> Ext<F> {
         }
     }
 
-    /// The greatest whole number that is at most the value; an infinity and NA stay.
+    /// The greatest integer that is at most the value; an infinity and NA are unchanged.
     #[tactic(auto, unfolding(crate::specs::Extended::floor))]
     pub fn floor(self) -> Ext<F>
         ensures { extended F.value result ≡ floor (extended F.value self) }
@@ -61,7 +60,7 @@ impl<F: ExactField> Ext<F> {
         }
     }
 
-    /// The least whole number that is at least the value; an infinity and NA stay.
+    /// The least integer that is at least the value; an infinity and NA are unchanged.
     #[tactic(auto, unfolding(crate::specs::Extended::ceiling))]
     pub fn ceil(self) -> Ext<F>
         ensures { extended F.value result ≡ ceiling (extended F.value self) }
@@ -72,7 +71,7 @@ impl<F: ExactField> Ext<F> {
         }
     }
 
-    /// The whole number towards 0; an infinity and NA stay.
+    /// The value without its fractional part; an infinity and NA are unchanged.
     #[tactic(auto, unfolding(crate::specs::Extended::truncation))]
     pub fn trunc(self) -> Ext<F>
         ensures { extended F.value result ≡ truncation (extended F.value self) }

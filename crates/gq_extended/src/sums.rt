@@ -1,4 +1,4 @@
-//! The sign turned, sums and differences.
+//! The change of a sign, sums and differences.
 ghost use Rattle.std.specs.Prelude.{◌≡◌};
 ghost use Rattle.gq_extended.specs.Extended.{negated, sum, difference};
 ghost use Rattle.gq_extended.specs.Meaning.{extended, outcome};
@@ -8,7 +8,7 @@ use crate::fault::ExtendedFault;
 use gq_field::ExactField;
 
 impl<F: ExactField> Ext<F> {
-    /// The value of the other sign; NA stays.
+    /// The value with its sign changed: an infinity becomes the opposite one, and NA stays NA.
     #[tactic(auto, unfolding(crate::specs::Extended::negated))]
     pub fn neg(self) -> Ext<F>
         ensures { extended F.value result ≡ negated (extended F.value self) }
@@ -21,8 +21,8 @@ impl<F: ExactField> Ext<F> {
         }
     }
 
-    /// The sum. `Limit` exactly if both are numbers and their sum in the field is `Limit`, and
-    /// `Undefined` exactly for two opposite infinities.
+    /// The sum of the value and `other`; NA if either is NA. `Limit` exactly if both are numbers
+    /// and their sum in the field is `Limit`, and `Undefined` exactly for two opposite infinities.
     #[tactic(auto, unfolding(crate::specs::Extended::sum))]
     pub fn add(self, other: Ext<F>) -> Result<Ext<F>, ExtendedFault>
         ensures { outcome F.value result
@@ -39,7 +39,8 @@ impl<F: ExactField> Ext<F> {
         }
     }
 
-    /// The difference, which is the sum with the negated `other`, with its faults.
+    /// The value less `other`: the sum of the value and the negated `other`, with the faults of
+    /// that sum.
     #[tactic(auto, unfolding(crate::specs::Extended::difference))]
     pub fn sub(self, other: Ext<F>) -> Result<Ext<F>, ExtendedFault>
         ensures { outcome F.value result

@@ -11,14 +11,14 @@ use Rattle.gq_field.specs.Fits.{fits}
 use Rattle.gq_field.specs.Parts.{IsFraction, number_of_parts}
 use Rattle.gq_field.specs.Values.{half_value, tiny_value}
 
--- seven bits at least, and 127 at most
+-- if `bits` is from 7 to 127, then 2^bits - 1 is from 127 to 2^127 - 1
 pub range_of_bits : (bits : ℕ) → 7 ≤ bits → bits ≤ 127 → (127 ≤ 2 ^ bits - 1) × (2 ^ bits - 1 < 2 ^ 127)
 range_of_bits bits least most =
     let low : 2 ^ 7 ≤ 2 ^ bits = pow-le-pow_right (omega arith) least in
     let high : 2 ^ bits ≤ 2 ^ 127 = pow-le-pow_right (omega arith) most in
     (omega arith, omega arith)
 
--- a number with such parts fits
+-- a fraction of `bits` bits fits under the limit 2^bits - 1
 pub parts_within : (bits : ℕ) (n : ℤ) (d : ℕ) (parts : IsFraction bits n d) → fits (2 ^ bits - 1) (number_of_parts n d parts) ≡ true
 unfolding number_of_parts
 parts_within bits n d parts = grind (arith, nat_tests)
@@ -26,7 +26,8 @@ parts_within bits n d parts = grind (arith, nat_tests)
 IsFraction-prop : (bits : ℕ) (n : ℤ) (d : ℕ) → IsProp (IsFraction bits n d)
 IsFraction-prop bits n d = hlevel props
 
--- values made of the same parts are the same
+-- two values that `make` builds of fractions of `bits` bits are equal if the fractions are one
+-- number
 pub same_parts : {F : Type 0} (bits : ℕ) (make : (n : ℤ) (d : ℕ) → IsFraction bits n d → F) (n m : ℤ) (c d : ℕ) (p : IsFraction bits n c) (q : IsFraction bits m d) → number_of_parts n c p ≡ number_of_parts m d q → make n c p ≡ make m d q
 unfolding number_of_parts
 same_parts {F} bits make n m c d p q e =
@@ -34,7 +35,7 @@ same_parts {F} bits make n m c d p q e =
     subst (λ (k : ℤ). (q : IsFraction bits k c) → make n c p ≡ make k c q) (ap (λ (v : Number). v.numerator) e) (λ q. ap (make n c) (IsFraction-prop bits n c p q)) in
     subst (λ (k : ℕ). (q : IsFraction bits m k) → make n c p ≡ make m k q) (ap (λ (v : Number). v.denominator) e) at_numerator q
 
--- the parts of a number that fits are below the power of two
+-- numerator and denominator of a number that fits under 2^bits - 1 are below 2^bits in magnitude
 pub parts_below : (bits : ℕ) (x : Number) → 0 < 2 ^ bits → fits (2 ^ bits - 1) x ≡ true → (nat_abs x.numerator < 2 ^ bits) × (x.denominator < 2 ^ bits)
 parts_below bits x above within =
     let both : (nat_abs x.numerator ≤ 2 ^ bits - 1) × (x.denominator ≤ 2 ^ bits - 1) = grind (arith, nat_tests) in

@@ -3,7 +3,7 @@ use Rattle.std.specs.Prelude.{◌≡◌, ℕ, ◌*◌, ◌/◌, Bool, true, fals
 use Rattle.gq_number.specs.Number.{Number, gcd}
 use Rattle.gq_field.specs.declared.field.Limit.{Limit}
 
--- both parts of the number are at most the limit in magnitude
+-- whether the numerator and the denominator of the number are at most the limit in magnitude
 abbrev pub fits : ℕ → Number → Bool
 fits limit x = nat_le (nat_abs x.numerator) limit && nat_le x.denominator limit
 
@@ -19,7 +19,8 @@ sum_fits limit x y =
     let h : ℕ = gcd (nat_abs t) g in
     nat_le (nat_abs u) limit && nat_le (nat_abs v) limit && nat_le (nat_abs t) limit && nat_le (x.denominator / g * (y.denominator / h)) limit
 
--- the answer is the value x where the test holds, and Limit where it does not
+-- what a step over a field answers: a value that means x if the test is true, and the fault `Limit`
+-- if it is false; `value` gives the number that a value means
 abbrev pub Answers : {F : Type 0} → (F → Number) → Result F Limit → Bool → Number → Type 0
 Answers value (Ok y) test x = (test ≡ true) × (value y ≡ x)
 Answers value (Err e) test x = test ≡ false

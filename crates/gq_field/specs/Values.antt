@@ -7,7 +7,7 @@ use Rattle.gq_field.specs.declared.half.Half.{Half}
 use Rattle.gq_field.specs.declared.tiny.Tiny.{Tiny}
 use Rattle.gq_field.specs.Parts.{number_of_parts}
 
--- the whole number of this magnitude, negated or not
+-- the integer of this magnitude, negated if the Bool is true
 abbrev pub signed : Bool → ℕ → ℤ
 signed false magnitude = pos magnitude
 signed true magnitude = neg_ℤ (pos magnitude)
@@ -16,7 +16,7 @@ pub signed_reduced : (negative : Bool) (magnitude denominator : ℕ) → IsReduc
 signed_reduced false m d r = r
 signed_reduced true m d r = neg_reduced (pos m) d r
 
--- the number with this sign and these parts
+-- the number that a `Fraction` means: its magnitude over its denominator, negated if `negative`
 unfoldable pub fraction_value : Fraction → Number
 fraction_value f =
     record { numerator = signed f.negative f.magnitude; denominator = f.denominator; reduced = signed_reduced f.negative f.magnitude f.denominator f.reduced }

@@ -35,7 +35,7 @@ fn compare_by_turns(a: u128, b: u128, c: u128, d: u128) -> Ordering
     }
 }
 
-/// How a/b and c/d compare. Words are multiplied crosswise.
+/// How the fractions a/b and c/d compare. Neither has to be reduced, and no product overflows.
 #[inline(always)]
 pub fn compare_magnitudes(a: u128, b: u128, c: u128, d: u128) -> Ordering
     requires first { 0 < b }

@@ -3,10 +3,10 @@
 ghost use Rattle.std.specs.Prelude.{◌≡◌, ◌<◌, ◌/◌, ◌%◌};
 ghost use Rattle.gq_number.specs.Gcd.{gcd};
 
-/// The greatest number of one word.
+/// The greatest number of one word, that is, of 64 bits.
 pub const WORD: u128 = u64::MAX as u128;
 
-/// The greatest common divisor; that of 0 and `b` is `b`.
+/// The greatest common divisor of `a` and `b`; that of 0 and a number is the number.
 #[inline(always)]
 pub fn gcd(a: u128, b: u128) -> u128
     ensures value { result ≡ gcd a b }
@@ -36,8 +36,9 @@ fn gcd_of_any(a: u128, b: u128) -> u128
     gcd_of_words(x as u64, y as u64) as u128
 }
 
-/// The greatest common divisor of two words: that of their odd parts, times the powers of 2 that
-/// they share. The binary algorithm of Knuth, The Art of Computer Programming, volume 2, 4.5.2.
+/// The greatest common divisor of two words: that of their odd parts, times the greatest power of 2
+/// that divides both. The binary algorithm of Knuth, The Art of Computer Programming, volume 2,
+/// 4.5.2. The greatest common divisor of 0 and a number is the number.
 pub fn gcd_of_words(a: u64, b: u64) -> u64
     ensures { result ≡ gcd a b }
 {
@@ -57,8 +58,8 @@ pub fn gcd_of_words(a: u64, b: u64) -> u64
     }
 }
 
-/// The greatest common divisor of two odd numbers. The difference, without its factors of 2,
-/// replaces the greater, until the lesser is 1 or both are equal.
+/// The greatest common divisor of two odd numbers. Until the lesser is 1 or both are equal, their
+/// difference, divided by 2 until it is odd, replaces the greater.
 pub fn gcd_of_odds(a: u64, b: u64) -> u64
     requires first { a % 2 ≡ 1 }
     requires second { b % 2 ≡ 1 }
@@ -73,7 +74,7 @@ pub fn gcd_of_odds(a: u64, b: u64) -> u64
     low
 }
 
-/// The quotient without its fraction.
+/// The quotient `n / d`, rounded down to an integer.
 #[inline(always)]
 pub fn over(n: u128, d: u128) -> u128
     requires { 0 < d }

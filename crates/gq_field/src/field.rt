@@ -11,27 +11,30 @@ use crate::sum::{difference, sum};
 use std::cmp::Ordering;
 use thiserror::Error;
 
-/// The answer of a step of which a number does not fit under the limit.
+/// Why an operation of a field has no result: the result, or a number that is computed on the way
+/// to it, does not fit under the field's limit.
 #[derive(Clone, Copy, Debug, PartialEq, Eq, Error)]
 #[error("beyond the field's limit")]
 pub struct Limit;
 
-/// A field of exact numbers whose parts are at most a limit in magnitude.
+/// A field of exact numbers whose numerators and denominators are at most a limit in magnitude.
 ///
-/// A value means a number, its reduced fraction. A step answers the exact number if it fits, and
-/// `Limit` exactly if it does not: a sum or a difference fits if each intermediate number does, any
-/// other step if its result does.
+/// Each value of the type means a number (`value`), whose numerator and denominator are those of
+/// its reduced fraction. An operation returns the exact number if it fits under the limit, and the
+/// error `Limit` exactly if it does not. A sum or a difference fits if each number that is computed
+/// on the way to it is at most the limit; any other result fits if its numerator and denominator
+/// are.
 pub trait ExactField: Copy {
     ghost use Rattle.gq_field.specs.Fits.{fits, sum_fits, Answers};
     ghost use Rattle.gq_field.specs.Values.{fraction_value};
 
-    /// The greatest magnitude that a part of a value has.
+    /// The greatest magnitude that a numerator or a denominator may have.
     ghost limit: { ℕ };
 
     /// The number that a value means.
     ghost value: { Self → Number };
 
-    /// The greatest magnitude that a part of a value has.
+    /// The greatest magnitude that a numerator or a denominator may have.
     fn limit() -> u128
         ensures { result ≡ limit };
 
@@ -39,7 +42,7 @@ pub trait ExactField: Copy {
     fn widened(self) -> Fraction
         ensures { fraction_value result ≡ value self };
 
-    /// The value of this fraction, whose parts have to fit.
+    /// The value that means this fraction, which has to fit under the limit.
     fn narrowed(fraction: Fraction) -> Self
         requires { fits limit (fraction_value fraction) ≡ true }
         ensures { value result ≡ fraction_value fraction };
@@ -58,7 +61,7 @@ pub trait ExactField: Copy {
         Self::from_int(1)
     }
 
-    /// The whole number `n`, which has to fit.
+    /// The value of the integer `n`, whose magnitude has to be at most the limit.
     final fn from_int(n: i64) -> Self
         requires { nat_abs n ≤ limit }
         ensures { value result ≡ whole n }
@@ -67,7 +70,7 @@ pub trait ExactField: Copy {
     }
 
     /// The reduced fraction of `num` over `den`, which is not 0. `Limit` exactly if the reduced
-    /// numerator or denominator does not fit.
+    /// numerator or denominator exceeds the limit in magnitude.
     final fn from_parts(num: i128, den: u128) -> Result<Self, Limit>
         requires { 0 < den }
         ensures { Answers value result (fits limit (ratio num den)) (ratio num den) }
@@ -106,7 +109,7 @@ pub trait ExactField: Copy {
         }
     }
 
-    /// The value of the other sign.
+    /// The value with its sign changed.
     final fn neg(self) -> Self
         ensures { value result ≡ neg_ℚ (value self) }
     {
@@ -120,7 +123,7 @@ pub trait ExactField: Copy {
         compare(self.widened(), other.widened())
     }
 
-    /// The whole number towards 0.
+    /// The value without its fractional part: rounded to a whole number towards 0.
     final fn trunc(self) -> Self
         ensures { value result ≡ whole (truncated (value self)) }
     {
@@ -141,7 +144,7 @@ pub trait ExactField: Copy {
         Self::narrowed(up(self.widened()))
     }
 
-    /// The nearest whole number, and from the middle of two the one further from 0.
+    /// The nearest whole number; a half is rounded away from 0.
     final fn round_whole(self) -> Self
         ensures { value result ≡ whole (rounded (value self)) }
     {
@@ -158,7 +161,8 @@ pub trait ExactField: Copy {
         Ok(Self::narrowed(fraction))
     }
 
-    /// The difference, which is the sum with the negated `other`, with its `Limit`.
+    /// The difference: the sum of the value and the negated `other`. `Limit` exactly if that sum
+    /// is.
     final fn sub(self, other: Self) -> Result<Self, Limit>
         ensures { Answers value result (sum_fits limit (value self) (neg_ℚ (value other)))
             (value self -ℚ value other) }
@@ -167,7 +171,8 @@ pub trait ExactField: Copy {
         Ok(Self::narrowed(fraction))
     }
 
-    /// The product. `Limit` exactly where a part of the reduced product does not fit.
+    /// The product. `Limit` exactly if the numerator or denominator of the reduced product does not
+    /// fit.
     final fn mul(self, other: Self) -> Result<Self, Limit>
         ensures { Answers value result (fits limit (value self *ℚ value other))
             (value self *ℚ value other) }
@@ -176,8 +181,8 @@ pub trait ExactField: Copy {
         Ok(Self::narrowed(fraction))
     }
 
-    /// The quotient by `d`, which is not 0. `Limit` exactly if the reduced numerator or denominator
-    /// does not fit.
+    /// The quotient by `d`, which is not 0. `Limit` exactly if the numerator or denominator of the
+    /// reduced quotient does not fit.
     final fn div(self, d: Self) -> Result<Self, Limit>
         requires { value d ≢ whole (pos 0) }
         ensures { Answers value result (fits limit (value self /ℚ value d))
@@ -190,12 +195,12 @@ pub trait ExactField: Copy {
     /// The least limit is 127, and the greatest 2^127 - 1.
     ghost limit_range: { (127 ≤ limit) × (limit < 2 ^ 127) };
 
-    /// Each value fits.
+    /// Each value fits under the limit.
     ghost within: { (x : Self) → fits limit (value x) ≡ true };
 
     /// Values that mean the same number are the same.
     ghost same_value: { (x y : Self) → value x ≡ value y → x ≡ y };
 
-    /// Each number that fits is meant by a value.
+    /// Each number that fits under the limit is the number of some value.
     ghost each_number: { (x : Number) → fits limit x ≡ true → (y : Self) × (value y ≡ x) };
 }

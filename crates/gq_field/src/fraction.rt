@@ -2,7 +2,8 @@
 ghost use Rattle.std.specs.Prelude.{◌≡◌, ◌<◌, ◌^◌, ◌&&◌, nat_abs, nat_lt, pos};
 ghost use Rattle.gq_number.specs.Reduced.{IsReduced};
 
-/// A reduced fraction by its sign and its parts, which are below 2^127. A negated 0 is 0.
+/// A reduced fraction: whether it is negated, the magnitude of its numerator, and its denominator.
+/// The last two are below 2^127. A negated 0 means 0.
 #[derive(Clone, Copy, Debug)]
 pub struct Fraction {
     pub negative: bool,
@@ -17,7 +18,8 @@ impl Fraction {
     ghost use Rattle.gq_number.specs.Number.{neg_ℚ, whole};
     ghost use Rattle.gq_field.specs.Values.{fraction_value, signed};
 
-    /// The fraction with these parts, which are reduced and below 2^127 in magnitude.
+    /// The fraction `numerator / denominator`. The two have no common factor, and both are below
+    /// 2^127 in magnitude.
     #[inline(always)]
     pub fn new(numerator: i128, denominator: u128) -> Fraction
         requires reduced { IsReduced numerator denominator }
@@ -33,7 +35,7 @@ impl Fraction {
         }
     }
 
-    /// The whole number of this magnitude, which is below 2^127, negated or not.
+    /// The whole number with this magnitude, which is below 2^127; it is negated if `negative`.
     #[inline(always)]
     pub fn whole(negative: bool, magnitude: u128) -> Fraction
         requires { magnitude < 2 ^ 127 }
@@ -46,7 +48,7 @@ impl Fraction {
         }
     }
 
-    /// The numerator with its sign.
+    /// The numerator of the reduced fraction, below 0 if the fraction is.
     #[inline(always)]
     pub fn numerator(self) -> i128
         ensures { result ≡ (fraction_value self).numerator }
@@ -63,7 +65,7 @@ impl Fraction {
         self.negative && self.magnitude != 0
     }
 
-    /// The fraction of the other sign.
+    /// The fraction with its sign changed.
     #[inline(always)]
     pub fn negated(self) -> Fraction
         ensures { fraction_value result ≡ neg_ℚ (fraction_value self) }

@@ -8,7 +8,7 @@ use crate::divisor::{WORD, gcd, over};
 use crate::field::Limit;
 use crate::fraction::Fraction;
 
-/// The product of two magnitudes where it is at most the limit.
+/// The product of two magnitudes. The error `Limit` comes exactly if the product exceeds `limit`.
 #[inline(always)]
 pub fn product_within(limit: u128, a: u128, b: u128) -> Result<u128, Limit>
     ensures { OkIff result (a * b ≤ limit) (a * b) }
@@ -24,7 +24,8 @@ pub fn product_within(limit: u128, a: u128, b: u128) -> Result<u128, Limit>
     }
 }
 
-/// The fraction of these parts, reduced.
+/// The reduced fraction of `magnitude` over `denominator`, negated if `negative`. The error `Limit`
+/// comes exactly if the numerator or the denominator of the reduced fraction exceeds `limit`.
 pub fn reduced(
     limit: u128,
     negative: bool,
@@ -105,7 +106,8 @@ fn reduced_product(limit: u128, x: Fraction, y: Fraction) -> Result<Fraction, Li
     })
 }
 
-/// The product.
+/// The product of `x` and `y`. The error `Limit` comes exactly if the numerator or the denominator
+/// of the reduced product exceeds `limit` in magnitude.
 #[inline(always)]
 pub fn product(limit: u128, x: Fraction, y: Fraction) -> Result<Fraction, Limit>
     requires limit { limit < 2 ^ 127 }
@@ -126,7 +128,7 @@ pub fn product(limit: u128, x: Fraction, y: Fraction) -> Result<Fraction, Limit>
     }
 }
 
-/// The fraction turned over.
+/// The reciprocal of a fraction that is not 0.
 #[inline(always)]
 pub fn reciprocal(x: Fraction) -> Fraction
     requires { x.magnitude ≢ 0 }
@@ -139,7 +141,8 @@ pub fn reciprocal(x: Fraction) -> Fraction
     }
 }
 
-/// The quotient, which is the product with the divisor turned over.
+/// The quotient of `x` over `y`, which is not 0. The error `Limit` comes exactly if the numerator
+/// or the denominator of the reduced quotient exceeds `limit` in magnitude.
 #[inline(always)]
 pub fn quotient(limit: u128, x: Fraction, y: Fraction) -> Result<Fraction, Limit>
     requires limit { limit < 2 ^ 127 }

@@ -1,11 +1,11 @@
-//! The four ways from a fraction to a whole number.
+//! The four roundings of a fraction to a whole number.
 ghost use Rattle.std.specs.Prelude.{◌≡◌};
 ghost use Rattle.gq_number.specs.Number.{whole, truncated, floor_of, ceiling_of, rounded};
 ghost use Rattle.gq_field.specs.Values.{fraction_value};
 
 use crate::fraction::Fraction;
 
-/// The whole number towards 0.
+/// The fraction without its fractional part: rounded to a whole number towards 0.
 pub fn towards_zero(x: Fraction) -> Fraction
     ensures { fraction_value result ≡ whole (truncated (fraction_value x)) }
 {
@@ -30,7 +30,7 @@ pub fn up(x: Fraction) -> Fraction
     down(x.negated()).negated()
 }
 
-/// The nearest whole number, and from the middle of two the one further from 0.
+/// The whole number nearest to the fraction. If two are equally near, it is the one farther from 0.
 pub fn to_nearest(x: Fraction) -> Fraction
     ensures { fraction_value result ≡ whole (rounded (fraction_value x)) }
 {

@@ -9,7 +9,8 @@ use crate::field::Limit;
 use crate::fraction::Fraction;
 use crate::product::product_within;
 
-/// The sum of two whole numbers, by sign and magnitude.
+/// The sum of two integers. Each of the two, and the result, is a bool, whether it is negated, and
+/// a magnitude.
 #[inline(always)]
 pub fn signed_sum(
     negative: bool,
@@ -80,7 +81,9 @@ fn sum_over_common(limit: u128, x: Fraction, y: Fraction) -> Result<Fraction, Li
     })
 }
 
-/// The sum.
+/// The sum of `x` and `y`. The error `Limit` comes exactly if a number that is computed on the way
+/// to it exceeds `limit` in magnitude: the numerator of `x` or of `y` over their least common
+/// denominator, the sum of these two numerators, or the denominator of the reduced result.
 #[inline(always)]
 pub fn sum(limit: u128, x: Fraction, y: Fraction) -> Result<Fraction, Limit>
     requires { limit < 2 ^ 127 }
@@ -95,7 +98,8 @@ pub fn sum(limit: u128, x: Fraction, y: Fraction) -> Result<Fraction, Limit>
     }
 }
 
-/// The difference, which is the sum with the negated.
+/// The difference of `x` and `y`, computed as the sum of `x` and the negated `y`. The error `Limit`
+/// comes exactly if that sum (`sum`) has this error.
 #[inline(always)]
 pub fn difference(limit: u128, x: Fraction, y: Fraction) -> Result<Fraction, Limit>
     requires { limit < 2 ^ 127 }

@@ -7,11 +7,12 @@ use Rattle.gq_field.specs.Parts.{number_of_parts}
 use Rattle.gq_field.specs.FieldLaws.{range_of_bits, parts_within, parts_below, same_parts}
 use Rattle.gq_frac.specs.declared.frac.Frac.{Frac}
 
--- the limit of the numbers of a run: no part is greater in magnitude
+-- the limit of the numbers that a program computes with: the greatest magnitude of a numerator or a
+-- denominator
 abbrev pub frac_limit : ℕ
 frac_limit = 2 ^ 127 - 1
 
--- the number that a value of the field with that limit means
+-- the number that a value of the field with the limit 2^127 - 1 means
 unfoldable pub frac_value : Frac → Number
 frac_value f = number_of_parts f.numerator f.denominator f.parts
 

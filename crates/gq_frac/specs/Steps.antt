@@ -6,6 +6,7 @@ use Rattle.gq_field.specs.Values.{half_value}
 use Rattle.gq_frac.specs.declared.frac.Frac.{Frac}
 use Rattle.gq_frac.specs.Frac.{frac_value}
 
--- where the narrow answer is a number, the wide answer is the same number
+-- if the operation on numbers of 63 bits returns a number, then the operation on numbers of 127
+-- bits returns the same number
 abbrev pub KeepsAnswer : Result Half Limit → Result Frac Limit → Type 0
 KeepsAnswer narrow wide = IfOk narrow (λ h. IsOkAnd wide (λ f. frac_value f ≡ half_value h))

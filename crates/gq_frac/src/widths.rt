@@ -7,15 +7,16 @@ ghost use Rattle.gq_frac.specs.Frac.{frac_value};
 use crate::frac::Frac;
 use gq_field::{ExactField, Half};
 
-/// The same number over 127 bits.
+/// The number of `h` as a `Frac`. It always fits: a `Half` has a numerator and a denominator of at
+/// most 63 bits, a `Frac` of at most 127.
 pub fn widen(h: Half) -> Frac
     ensures { frac_value result ≡ half_value h }
 {
     Frac::narrowed(h.widened())
 }
 
-/// The same number over 63 bits, or `None` exactly if its numerator or denominator is over 2^63 - 1
-/// in magnitude.
+/// The number of `f` as a `Half`; `None` exactly if its numerator or its denominator has a
+/// magnitude of over 2^63 - 1.
 pub fn narrow(f: Frac) -> Option<Half>
     ensures value { IfSome result (λ h. half_value h ≡ frac_value f) }
     ensures fits { IsSome result ↔ (fits (2 ^ 63 - 1) (frac_value f) ≡ true) }

@@ -1,8 +1,8 @@
 -- The greatest common divisor of two counting numbers.
 use Rattle.std.specs.Prelude.{ℕ, zero, suc, ◌%◌}
 
--- what Euclid's algorithm has after at most `steps` steps: the greatest common divisor if there are
--- more steps than b
+-- the first of the two numbers that Euclid's algorithm has after at most `steps` steps from a and
+-- b: their greatest common divisor if `steps` is above b
 unfoldable pub gcd_in_steps : ℕ → ℕ → ℕ → ℕ
 gcd_in_steps zero a b = a
 gcd_in_steps (suc steps) a zero = a

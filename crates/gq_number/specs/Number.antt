@@ -5,12 +5,12 @@ use Rattle.gq_number.specs.Reduced.{whole_reduced, ratio_reduced, neg_reduced}
 unfoldable pub use Rattle.gq_number.specs.Gcd.{gcd}
 pub use Rattle.gq_number.specs.Reduced.{IsReduced}
 
--- a reduced fraction; it is known by its two parts
+-- a rational number as its reduced fraction; numerator and denominator determine it
 pub record Number : Type 0 where
   pub numerator : ℤ
   -- above 0
   pub denominator : ℕ
-  -- the parts have no common divisor but 1
+  -- numerator and denominator have no common divisor but 1
   pub reduced : IsReduced numerator denominator
 
 -- a whole number
@@ -25,11 +25,11 @@ ratio n (suc d) =
 
 infixl 6 ◌+ℚ◌ ◌-ℚ◌
 infixl 7 ◌*ℚ◌ ◌/ℚ◌
--- the sum: each numerator times the other denominator, over the product of the denominators
+-- the sum: each numerator times the other denominator, added, over the product of the denominators
 unfoldable pub ◌+ℚ◌ : Number → Number → Number
 x +ℚ y = ratio (x.numerator *ℤ pos y.denominator +ℤ y.numerator *ℤ pos x.denominator) (x.denominator * y.denominator)
 
--- the number of the other sign
+-- the number with its sign changed
 unfoldable pub neg_ℚ : Number → Number
 neg_ℚ x = record { numerator = neg_ℤ x.numerator; denominator = x.denominator; reduced = neg_reduced x.numerator x.denominator x.reduced }
 
@@ -41,17 +41,17 @@ x -ℚ y = x +ℚ neg_ℚ y
 unfoldable pub ◌*ℚ◌ : Number → Number → Number
 x *ℚ y = ratio (x.numerator *ℤ y.numerator) (x.denominator * y.denominator)
 
--- a fraction turned over, the sign kept above; 0 for 0
+-- the reciprocal d/n of the fraction n/d, with the sign in the numerator; 0 if n is 0
 abbrev pub turned_over : ℤ → ℕ → Number
 turned_over (pos zero) d = whole (pos 0)
 turned_over (pos (suc n)) d = ratio (pos d) (suc n)
 turned_over (negsuc n) d = ratio (neg_ℤ (pos d)) (suc n)
 
--- the reciprocal; 0 for 0
+-- the reciprocal of a number; 0 for the number 0
 unfoldable pub inv_ℚ : Number → Number
 inv_ℚ x = turned_over x.numerator x.denominator
 
--- the quotient; 0 where the divisor is 0
+-- the quotient x/y; 0 if y is 0
 unfoldable pub ◌/ℚ◌ : Number → Number → Number
 x /ℚ y = x *ℚ inv_ℚ y
 
@@ -65,24 +65,24 @@ sign_of_ℤ (negsuc n) = negsuc 0
 unfoldable pub sign_of : Number → ℤ
 sign_of x = sign_of_ℤ x.numerator
 
--- n over d without its fraction
+-- n over d without its fractional part: rounded towards 0
 abbrev pub quotient_towards_zero : ℤ → ℕ → ℤ
 quotient_towards_zero (pos n) d = pos (n / d)
 quotient_towards_zero (negsuc n) d = neg_ℤ (pos (suc n / d))
 
--- the greatest whole number that is at most n over d: for n = -(k + 1), one below the negated
--- quotient of k
+-- the greatest whole number that is at most n over d; if n is -(k + 1), then this is one below the
+-- negated whole part of k over d
 abbrev pub quotient_down : ℤ → ℕ → ℤ
 quotient_down (pos n) d = pos (n / d)
 quotient_down (negsuc k) d = negsuc (k / d)
 
--- the whole number nearest to n over d: twice the magnitude plus one denominator, over two
--- denominators, without fraction
+-- the whole number nearest to n over d, halves away from 0: 2 |n| + d over 2 d, without its
+-- fractional part, with the sign of n
 abbrev pub quotient_to_nearest : ℤ → ℕ → ℤ
 quotient_to_nearest (pos n) d = pos ((2 * n + d) / (2 * d))
 quotient_to_nearest (negsuc n) d = neg_ℤ (pos ((2 * suc n + d) / (2 * d)))
 
--- the number without its fraction
+-- the number without its fractional part: rounded towards 0
 unfoldable pub truncated : Number → ℤ
 truncated x = quotient_towards_zero x.numerator x.denominator
 
@@ -94,6 +94,6 @@ floor_of x = quotient_down x.numerator x.denominator
 unfoldable pub ceiling_of : Number → ℤ
 ceiling_of x = neg_ℤ (floor_of (neg_ℚ x))
 
--- the nearest whole number; from the middle of two, the one further from 0
+-- the nearest whole number, halves away from 0
 unfoldable pub rounded : Number → ℤ
 rounded x = quotient_to_nearest x.numerator x.denominator

@@ -6,7 +6,7 @@ use Rattle.std.specs.Ordering.{int_cmp}
 use Rattle.std.specs.declared.cmp.Ordering.TheVariants.{Less, Equal, Greater}
 use Rattle.gq_number.specs.Number.{Number, neg_ℚ}
 
--- each numerator times the other denominator, compared
+-- how x compares with y: each numerator times the other's denominator, compared
 unfoldable pub number_cmp : Number → Number → Ordering
 number_cmp x y = int_cmp (x.numerator *ℤ pos y.denominator) (y.numerator *ℤ pos x.denominator)
 
@@ -19,7 +19,7 @@ pub record ◌≤ℚ◌ (x y : Number) : Type 0 where
 pub record ◌<ℚ◌ (x y : Number) : Type 0 where
   pub cross : (x.numerator *ℤ pos y.denominator) <ℤ (y.numerator *ℤ pos x.denominator)
 
--- of two numbers that compare so, the lesser
+-- the lesser of x and y, where the `Ordering` is how x compares with y; x if they are equal
 abbrev pub the_lesser : Ordering → Number → Number → Number
 the_lesser Less x y = x
 the_lesser Equal x y = x

@@ -4,7 +4,7 @@ use Rattle.std.proofs.Math.Nat.{eq-one_of_dvd-one}
 use Rattle.gq_number.specs.Gcd.{gcd}
 use Rattle.gq_number.specs.GcdLaws.{coprime_from, coprime-rest, gcd-times_right}
 
--- no number but 1 divides both parts, and the denominator is above 0
+-- no number but 1 divides both numerator and denominator, and the denominator is above 0
 pub record IsReduced (numerator : ℤ) (denominator : ℕ) : Type 0 where
   pub coprime : gcd (nat_abs numerator) denominator ≡ 1
   pub positive : 0 < denominator

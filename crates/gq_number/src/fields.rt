@@ -2,8 +2,9 @@
 ghost use Rattle.std.specs.Prelude.{◌≡◌, ◌≢◌, ◌↔◌, ◌⊎◌, pos};
 ghost use Rattle.gq_number.specs.Number.{Number, whole, ◌+ℚ◌, ◌-ℚ◌, ◌*ℚ◌, ◌/ℚ◌, neg_ℚ, inv_ℚ};
 
-/// The axioms of a field, as in Rudin, Principles of Mathematical Analysis, definition 1.12, with
-/// the difference and the quotient by the negated and the reciprocal.
+/// The axioms of a field, as in Rudin, Principles of Mathematical Analysis, definition 1.12. A
+/// difference is the sum with the negated number, and a quotient is the product with the
+/// reciprocal.
 pub fn field_laws()
     ensures sum_commutes { (x y : Number) → x +ℚ y ≡ y +ℚ x }
     ensures sum_associates { (x y z : Number) → x +ℚ y +ℚ z ≡ x +ℚ (y +ℚ z) }
@@ -19,7 +20,9 @@ pub fn field_laws()
     ensures quotient { (x y : Number) → x /ℚ y ≡ x *ℚ inv_ℚ y }
 {}
 
-/// What is left out of an equation, and what is known by its sum or product: Rudin, 1.14 to 1.16.
+/// When equal terms and factors cancel; that a number has one negated number and, unless it is 0,
+/// one reciprocal; and products with 0 and with negated numbers: Rudin, Principles of Mathematical
+/// Analysis, 1.14 to 1.16.
 pub fn cancellation_laws()
     ensures sum_cancels { (x y z : Number) → x +ℚ y ≡ x +ℚ z → y ≡ z }
     ensures product_cancels { (x y z : Number) → x ≢ whole (pos 0) → x *ℚ y ≡ x *ℚ z → y ≡ z }
@@ -33,8 +36,8 @@ pub fn cancellation_laws()
         (x ≡ whole (pos 0)) ⊎ (y ≡ whole (pos 0)) }
 {}
 
-/// Fractions of numbers: how they are added, multiplied and divided, and which number each is, as
-/// in any algebra text. The divisor 0 gives 0.
+/// How quotients are added, multiplied and divided, and when a quotient equals a number, as in any
+/// algebra text. A quotient by 0 is 0.
 pub fn quotient_laws()
     ensures by_zero { (x : Number) → x /ℚ whole (pos 0) ≡ whole (pos 0) }
     ensures by_one { (x : Number) → x /ℚ whole (pos 1) ≡ x }

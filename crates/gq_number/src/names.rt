@@ -4,9 +4,11 @@ ghost use Rattle.gq_number.specs.Reduced.{IsReduced};
 ghost use Rattle.gq_number.specs.Number.{Number, whole, ratio, ◌+ℚ◌, ◌*ℚ◌, ◌/ℚ◌, neg_ℚ};
 ghost use Rattle.gq_number.specs.Order.{◌≤ℚ◌, ◌<ℚ◌};
 
-/// A number is known by its reduced parts. Whole numbers keep their sums, products and order. A
-/// pair names the quotient of its parts, and a decimal literal the pair of its digits and of the
-/// power of ten. Rationals as pairs: any algebra text.
+/// When numbers and ratios are equal: cross products decide it, a number is the ratio of its
+/// numerator and its denominator, and a reduced ratio keeps its two parts. As rational numbers,
+/// whole numbers have the same sums, products and order. The ratio of two whole numbers is their
+/// quotient, and a decimal literal is the ratio of its digits and a power of ten. Rationals as
+/// pairs: any algebra text.
 pub fn name_laws()
     ensures same_number { (x y : Number) → (x ≡ y) ↔
         (x.numerator *ℤ pos y.denominator ≡ y.numerator *ℤ pos x.denominator) }

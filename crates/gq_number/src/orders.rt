@@ -4,8 +4,8 @@ ghost use Rattle.std.specs.declared.cmp.Ordering.TheVariants.{Less, Equal, Great
 ghost use Rattle.gq_number.specs.Number.{Number, whole, ◌+ℚ◌, ◌-ℚ◌, ◌*ℚ◌, ◌/ℚ◌, neg_ℚ, inv_ℚ, sign_of};
 ghost use Rattle.gq_number.specs.Order.{number_cmp, ◌≤ℚ◌, ◌<ℚ◌, min_ℚ, max_ℚ, abs_ℚ};
 
-/// The order is total, and the comparison decides it: Rudin, Principles of Mathematical Analysis,
-/// 1.5.
+/// The order of the rational numbers is total, and the comparison `number_cmp` decides it: Rudin,
+/// Principles of Mathematical Analysis, 1.5.
 pub fn order_laws()
     ensures reflexive { (x : Number) → x ≤ℚ x }
     ensures antisymmetric { (x y : Number) → x ≤ℚ y → y ≤ℚ x → x ≡ y }
@@ -19,7 +19,8 @@ pub fn order_laws()
     ensures compares_greater { (x y : Number) → (number_cmp x y ≡ Greater) ↔ (y <ℚ x) }
 {}
 
-/// The order under sums, products, reciprocals and quotients: Rudin, 1.17 and 1.18.
+/// The order under sums, products, reciprocals and quotients: Rudin, Principles of Mathematical
+/// Analysis, 1.17 and 1.18.
 pub fn monotone_laws()
     ensures zero_below_one { whole (pos 0) <ℚ whole (pos 1) }
     ensures sum { (x y z : Number) → (x ≤ℚ y) ↔ (x +ℚ z ≤ℚ y +ℚ z) }
@@ -36,7 +37,8 @@ pub fn monotone_laws()
     ensures square { (x : Number) → whole (pos 0) ≤ℚ x *ℚ x }
 {}
 
-/// The rules of signs, as in any algebra text.
+/// The sign of a number is 1 above 0, 0 at 0 and -1 below 0. Products and quotients are above 0 for
+/// like signs and below 0 for unlike signs, as in any algebra text.
 pub fn sign_laws()
     ensures above { (x : Number) → (sign_of x ≡ pos 1) ↔ (whole (pos 0) <ℚ x) }
     ensures at_zero { (x : Number) → (sign_of x ≡ pos 0) ↔ (x ≡ whole (pos 0)) }

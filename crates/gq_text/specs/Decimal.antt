@@ -15,30 +15,33 @@ scaled_by_ten x (pos k) = x *ℚ whole (pos (10 ^ k))
 scaled_by_ten x (negsuc k) = x /ℚ whole (pos (10 ^ suc k))
 
 -- the number that a decimal means: the digits before the point, plus those after it over ten to the
--- power of their count, all times ten to its exponent
+-- power of their count, all times ten to the power of the exponent
 abbrev pub number_of : Decimal → Number
 number_of d =
     scaled_by_ten (whole (pos (spelled d.before)) +ℚ ratio (pos (spelled d.following)) (10 ^ length d.following)) d.exponent
 
--- digits, at least one
+-- the text is one or more digits
 abbrev pub IsSomeDigits : List ℕ → Type 0
 IsSomeDigits text = AreDigits text × (0 < length text)
 
--- digits, with a sign before them or none, and the whole number that they are
+-- the text is one or more digits, perhaps after `+` or `-`, and e is the integer that it spells
 abbrev pub IsSigned : List ℕ → ℤ → Type 0
 IsSigned text e =
     (digits : List ℕ) × IsSomeDigits digits × (((text ≡ digits) × (e ≡ pos (spelled digits))) ⊎ (((text ≡ codes "+" ++ digits) × (e ≡ pos (spelled digits))) ⊎ ((text ≡ codes "-" ++ digits) × (e ≡ neg_ℤ (pos (spelled digits))))))
 
--- the text of an exponent: nothing for 0, or `e` or `E` and a whole number
+-- the text is that of the exponent e: empty for 0, or `e` or `E` before digits with an optional
+-- sign, which spell e
 abbrev pub IsExponent : List ℕ → ℤ → Type 0
 IsExponent [] e = e ≡ pos 0
 IsExponent (mark ∷ text) e = ((mark ≡ 101) ⊎ (mark ≡ 69)) × IsSigned text e
 
--- the text of digits before a point and after it: with none after it the point may be left out
+-- the text is the digits `before`, a point and the digits `following`; the point may be missing if
+-- `following` is empty
 abbrev pub IsPointed : List ℕ → List ℕ → List ℕ → Type 0
 IsPointed text before following = (text ≡ before ++ codes "." ++ following) ⊎ ((following ≡ []) × (text ≡ before))
 
--- the text of a decimal: digits with or without a point, at least one digit, and an exponent
+-- the text spells the decimal d: digits with or without a point, at least one digit, and perhaps an
+-- exponent
 pub record Spells (text : List ℕ) (d : Decimal) : Type 0 where
   pub pointed : List ℕ
   pub power : List ℕ

@@ -13,15 +13,15 @@ abbrev pub spelled : List ℕ → ℕ
 spelled [] = 0
 spelled (b ∷ bs) = (b - 48) * 10 ^ length bs + spelled bs
 
--- the numeral of n: its digits, at least one, and none of several begins with `0`
+-- The text is the numeral of n: at least one digit, and no leading `0` if there are several.
 pub record IsNumeral (n : ℕ) (text : List ℕ) : Type 0 where
   pub digits : AreDigits text
   pub some : 0 < length text
   pub first : 1 < length text → slice_index text 0 ≢ 48
   pub spells : spelled text ≡ n
 
--- the text of a whole number by the texts of magnitudes: `-` before the magnitude of a number below
--- 0, and nothing before any other
+-- the text is that of an integer, where `Is` holds for a magnitude and its text: `-` comes before
+-- the text of the magnitude if the integer is below 0, and nothing otherwise
 abbrev pub WithSign : (ℕ → List ℕ → Type 0) → ℤ → List ℕ → Type 0
 WithSign Is (pos n) text = Is n text
 WithSign Is (negsuc n) text = (rest : List ℕ) × (text ≡ codes "-" ++ rest) × Is (suc n) rest

@@ -4,7 +4,7 @@ use Rattle.gq_number.specs.Number.{Number, whole, ◌*ℚ◌, ◌/ℚ◌, rounde
 use Rattle.gq_text.specs.Numeral.{AreDigits, spelled, IsNumeral, WithSign}
 use Rattle.gq_text.specs.Decimal.{MeansNumber, MeansSigned}
 
--- how many decimals a number may be rounded to
+-- the greatest number of decimals to which a number may be rounded
 abbrev pub most_decimals : ℕ
 most_decimals = 8
 
@@ -13,7 +13,8 @@ abbrev pub with_decimal_point : List ℕ → List ℕ
 with_decimal_point [] = []
 with_decimal_point (b ∷ bs) = codes "." ++ (b ∷ bs)
 
--- the text of n units of the last decimal: the numeral of the whole part, a point, and the decimals
+-- The text is n over 10^decimals with that many decimals: the numeral of the whole part, a point,
+-- and the decimals; without decimals there is no point.
 pub record IsFixed (decimals n : ℕ) (text : List ℕ) : Type 0 where
   pub before : List ℕ
   pub following : List ℕ
@@ -23,20 +24,22 @@ pub record IsFixed (decimals n : ℕ) (text : List ℕ) : Type 0 where
   pub after_spells : spelled following ≡ n % 10 ^ decimals
   pub text_is : text ≡ before ++ with_decimal_point following
 
--- such a text with a sign, which occurs only if n is not 0
+-- the text is the integer n over 10^decimals with that many decimals, after `-` if n is below 0; so
+-- `-` never comes before zeros alone
 abbrev pub IsFixedSigned : ℕ → ℤ → List ℕ → Type 0
 IsFixedSigned decimals n text = WithSign (IsFixed decimals) n text
 
--- the number rounded to this many decimals, half away from zero
+-- the text is the number x rounded to this many decimals, halves away from zero
 abbrev pub IsRoundedText : ℕ → Number → List ℕ → Type 0
 IsRoundedText decimals x text = IsFixedSigned decimals (rounded (x *ℚ whole (pos (10 ^ decimals)))) text
 
--- the number exactly: `n`, or `n/d` if the denominator is not 1
+-- the text is the number x exactly: `n`, or `n/d` if the denominator d is not 1
 abbrev pub IsExactText : Number → List ℕ → Type 0
 IsExactText x text =
     ((x.denominator ≡ 1) × WithSign IsNumeral x.numerator text) ⊎ ((x.denominator ≢ 1) × ((above below : List ℕ) × (text ≡ above ++ codes "/" ++ below) × WithSign IsNumeral x.numerator above × IsNumeral x.denominator below))
 
--- the text read as a decimal with perhaps a sign, or as the quotient of it and another, means x
+-- the text means x: as a decimal, perhaps after `-`, or as such a decimal, `/` and a decimal, of
+-- which x is the quotient
 abbrev pub MeansQuotient : List ℕ → Number → Type 0
 MeansQuotient text x =
     MeansSigned text x ⊎ ((above below : List ℕ) × (y z : Number) × (text ≡ above ++ codes "/" ++ below) × MeansSigned above y × MeansNumber below z × (x ≡ y /ℚ z))

@@ -37,21 +37,21 @@ impl Digits {
         }
     }
 
-    /// The text.
+    /// The text that was written so far.
     pub fn as_str(&self) -> &str
         ensures { result.now ≡ self.now }
     {
         from_utf8(&self.bytes[..self.len]).unwrap()
     }
 
-    /// The bytes of the text.
+    /// The bytes of the text that was written so far.
     pub fn as_bytes(&self) -> &[u8]
         ensures { result.now ≡ self.now }
     {
         &self.bytes[..self.len]
     }
 
-    /// Takes all bytes away.
+    /// Removes all bytes.
     pub(crate) fn clear(&mut self)
         ensures { self.new ≡ [] }
     {
@@ -109,7 +109,7 @@ impl Digits {
         self.push_digits(n, 1 + n.checked_ilog10().unwrap_or(0));
     }
 
-    /// Appends `-`, if asked.
+    /// Appends `-` if `negative`.
     pub(crate) fn push_sign(&mut self, negative: bool)
         requires { length self.old < 96 }
         ensures { self.new ≡ self.old ++ sign_text negative }

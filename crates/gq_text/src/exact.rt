@@ -11,8 +11,8 @@ use crate::parts::{split_digits, split_sign};
 use crate::show::{put_exact, put_whole};
 use gq_field::ExactField;
 
-/// The whole number whose decimal digits the text is, without a needless zero before them. `None`
-/// exactly if it is not that of a number below 2^128.
+/// The whole number below 2^128 of which the text is the decimal digits, without leading zeros (0
+/// is `0`). `None` exactly if there is no such number.
 pub fn read_whole(text: &[u8]) -> Option<u128>
     ensures value { IfSome result (λ n. text.now ≡ decimal n) }
     ensures found { (n : ℕ) → n < 2 ^ 128 → text.now ≡ decimal n → IsSomeAnd result (λ m. m ≡ n) }
@@ -27,9 +27,9 @@ pub fn read_whole(text: &[u8]) -> Option<u128>
     }
 }
 
-/// The number whose exact text this is: its numerator, and if the denominator is not 1 then `/` and
-/// the denominator, in lowest terms. `None` exactly if it is that of no number within the field's
-/// limit.
+/// The number within the field's limit of which the text is the exact text: its numerator,
+/// followed, if its denominator is not 1, by `/` and the denominator; the two have no common
+/// factor. `None` exactly if there is no such number.
 pub fn read_exact<F: ExactField>(text: &[u8]) -> Option<F>
     ensures value { IfSome result (λ x. text.now ≡ exact_text (F.value x)) }
     ensures found { (x : Number) → fits F.limit x ≡ true → text.now ≡ exact_text x → IsSomeAnd result (λ y. F.value y ≡ x) }

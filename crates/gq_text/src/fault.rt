@@ -11,13 +11,13 @@ pub enum NumberFault {
     /// The text is not a number.
     #[error("not a number")]
     Shape,
-    /// The number's parts exceed the field's limit.
+    /// The text means a number that does not fit under the field's limit as a literal.
     #[error("beyond the field's limit")]
     Limit,
 }
 
 impl NumberFault {
-    /// The number of the fault.
+    /// The number of the fault: 1 for `Shape`, 2 for `Limit`.
     pub fn code(self) -> u8
         ensures { result ≡ fault_code self }
     {

@@ -8,9 +8,10 @@ ghost use Rattle.gq_text.specs.Shown.{most_decimals, IsFixedSigned, IsRoundedTex
 
 use crate::show::MOST_DECIMALS;
 
-/// A text means at most one number, with a sign and as a quotient too. A number is in at most one
-/// way m times 10^e, with a counting number m that does not end in 0. So the literal rule depends
-/// on the number and not on its text.
+/// A text means at most one number, also if read as a decimal with a sign or as a quotient. A
+/// number is in at most one way m times 10^e, with a natural number m that does not end in 0. So
+/// whether a decimal fits under a field's limit, which m and e decide, depends on its number and
+/// not on how it is written.
 pub fn reading_laws()
     ensures one_number { (text : List ℕ) (x y : Number) →
         MeansNumber text x → MeansNumber text y → x ≡ y }
@@ -22,9 +23,11 @@ pub fn reading_laws()
         scaled_by_ten (whole (pos m)) e ≡ scaled_by_ten (whole (pos n)) f → (m ≡ n) × (e ≡ f) }
 {}
 
-/// A number has at most one numeral, one exact text and one text for each number of decimals. A
-/// number shown exactly reads back as itself. A number shown rounded reads back as one within half
-/// a unit of the last place, and no other text of that form does, except in the middle between two.
+/// A natural number has at most one numeral. A number has at most one exact text, and at most one
+/// rounded text for each number of decimals. A number's exact text reads back as the number itself.
+/// Its rounded text reads back as a number at most half a unit of the last place from it.
+/// Conversely, a text with this number of decimals that reads back as a number less than half a
+/// unit from it is its rounded text.
 pub fn showing_laws()
     ensures one_numeral { (n : ℕ) (s t : List ℕ) → IsNumeral n s → IsNumeral n t → s ≡ t }
     ensures one_exact { (x : Number) (s t : List ℕ) → IsExactText x s → IsExactText x t → s ≡ t }
@@ -42,8 +45,9 @@ pub fn showing_laws()
         abs_ℚ (x -ℚ y) <ℚ ratio (pos 1) (2 * 10 ^ decimals) → IsRoundedText decimals x text }
 {}
 
-/// A number is rounded to at most 8 decimals, which callers name `MOST_DECIMALS` (GAMS User's
-/// Guide, "The Display Statement").
+/// `MOST_DECIMALS`, by which callers name the greatest number of decimals to which a number is
+/// rounded, equals the number that contracts name `most_decimals`: 8 (GAMS User's Guide, "The
+/// Display Statement").
 pub fn limit_laws()
     ensures { MOST_DECIMALS ≡ most_decimals }
 {}

@@ -84,8 +84,9 @@ fn tens(count: usize, adds: bool, digits: &[u8]) -> Option<u128>
     }
 }
 
-/// The numerator and denominator of digits times ten to the power `up` over ten to the power
-/// `down`: the product over 1, or the digits over the power. None if one is 2^128 or more.
+/// The numerator and denominator of `digits` times ten to the power `up` over ten to the power
+/// `down`: the product over 1, or the digits over the power. `None` if one of these is 2^128 or
+/// more.
 fn parts_of(digits: u128, up: u128, down: u128) -> Option<(u128, u128)>
     requires { 0 < digits }
     ensures whole { down ≤ up → SomeIff result (digits * 10 ^ (up - down) < 2 ^ 128) (digits * 10 ^ (up - down), 1) }
@@ -98,7 +99,7 @@ fn parts_of(digits: u128, up: u128, down: u128) -> Option<(u128, u128)>
     }
 }
 
-/// The same parts, where both are within the limit.
+/// The numerator and denominator of `parts_of`, if both are within the limit.
 fn parts_within(limit: u128, digits: u128, up: u128, down: u128) -> Option<(u128, u128)>
     requires limit { 0 < limit }
     requires some { 0 < digits }

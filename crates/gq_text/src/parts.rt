@@ -6,7 +6,8 @@ ghost use Rattle.gq_text.specs.Numeral.{AreDigits};
 ghost use Rattle.gq_text.specs.Decimal.{IsExponent};
 ghost use Rattle.gq_text.specs.InnerParts.{SplitsDigits, SplitsSign, Divides, exponent_of};
 
-/// The digits before a decimal's point and after it, and what follows these.
+/// The three parts of a decimal's text: the digits before the point (`before`), the digits after
+/// the point (`following`), and the text that remains after these digits (`rest`).
 #[derive(Clone, Copy)]
 pub(crate) struct Pointed<'a> {
     pub before: &'a [u8],
@@ -14,7 +15,7 @@ pub(crate) struct Pointed<'a> {
     pub rest: &'a [u8],
 }
 
-/// An exponent by its sign and its digits.
+/// The exponent of a decimal: its sign and its digits.
 #[derive(Clone, Copy)]
 pub(crate) struct Exponent<'a> {
     pub negative: bool,

@@ -6,14 +6,15 @@ use crate::literal::literal;
 use crate::parts::{read_exponent, split_pointed};
 use gq_field::ExactField;
 
-/// The value of a decimal's text: digits with or without a point, at least one digit, and perhaps
-/// an exponent, which is `e` or `E`, perhaps a sign, and digits (GAMS User's Guide, "Language
-/// Items").
+/// The number that a decimal's text means: digits with or without a point, at least one digit, and
+/// perhaps an exponent, which is `e` or `E`, perhaps a sign, and digits (GAMS User's Guide,
+/// "Language Items").
 ///
-/// `Shape` exactly if the text is no such text. Any other means a number. Written as m times 10^e,
-/// where m is a whole number that does not end in 0, it has to be within the field's limit: for e
-/// from 0 on the product, for e below 0 both m and 10^-e. `Limit` exactly if it is not. The number
-/// 0 always fits, and how the number is written makes no difference.
+/// The error `Shape` comes exactly if the text does not have this form; a text that has it means a
+/// number. Let m times 10^e be this number, where m is a whole number that does not end in 0. The
+/// number fits if the product, for e from 0 on, or both m and 10^-e, for e below 0, are at most the
+/// field's limit; 0 always fits. The error `Limit` comes exactly if the number does not fit,
+/// however it is written.
 pub fn read_decimal<F: ExactField>(text: &[u8]) -> Result<F, NumberFault>
     ensures { ReadsLiteral F.limit F.value text.now result }
 {

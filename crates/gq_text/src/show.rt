@@ -7,15 +7,15 @@ use crate::digits::Digits;
 use crate::division::rounded;
 use gq_field::ExactField;
 
-/// How many decimals a number is rounded to at most.
+/// The greatest number of decimals to which a number is rounded.
 pub const MOST_DECIMALS: u8 = 8;
 
-/// Replaces the text of `into` by the value rounded to `decimals` decimals, at most 8, half away
-/// from zero.
+/// Replaces the text of `into` by the number `v` rounded to `decimals` decimals, at most 8; a
+/// number halfway between two is rounded away from 0.
 ///
-/// The text is the whole part without needless zeros, a point and exactly `decimals` digits;
-/// without decimals there is no point. `-` precedes the text of a number below 0 if some digit is
-/// not 0 (GAMS User's Guide, "The Display Statement").
+/// The text is the whole part without leading zeros (`0` if it is 0), a point and exactly
+/// `decimals` digits; if `decimals` is 0, there is no point. `-` precedes the text of a number
+/// below 0 if some digit is not 0 (GAMS User's Guide, "The Display Statement").
 pub fn put_rounded<F: ExactField>(v: F, decimals: u8, into: &mut Digits)
     requires { decimals ≤ most_decimals }
     ensures { IsRoundedText decimals (F.value v) into.new }
@@ -28,8 +28,9 @@ pub fn put_rounded<F: ExactField>(v: F, decimals: u8, into: &mut Digits)
     into.push_decimals(fraction, decimals);
 }
 
-/// Replaces the text of `into` by the exact value: the numerator, and if the denominator is not 1
-/// then `/` and the denominator. `-` precedes the text of a number below 0.
+/// Replaces the text of `into` by the exact text of the number `v`: the numerator of its reduced
+/// fraction, followed, if the denominator is not 1, by `/` and the denominator. `-` precedes the
+/// text of a number below 0.
 pub fn put_exact<F: ExactField>(v: F, into: &mut Digits)
     ensures exact { IsExactText (F.value v) into.new }
     ensures text { into.new ≡ exact_text (F.value v) }
@@ -41,7 +42,7 @@ pub fn put_exact<F: ExactField>(v: F, into: &mut Digits)
     into.push_denominator(denominator);
 }
 
-/// Puts the decimal digits of a whole number, in place of what `into` has.
+/// Replaces the text of `into` by the decimal digits of `n`, without leading zeros.
 pub fn put_whole(n: u128, into: &mut Digits)
     ensures { into.new ≡ decimal n }
 {

@@ -1,10 +1,10 @@
--- The variable that a rule by costs picks.
+-- The variable that a rule picks by costs: the cheapest of those that improve.
 use Rattle.std.specs.Prelude.{◌≡◌, ◌⊎◌, ℕ, ◌<◌, ◌≤◌, Option, Some, None}
 use Rattle.lp_core.specs.Dictionary.{Dictionary, Improves}
 use Rattle.lp_any.specs.declared.costs.Candidate.{Candidate}
 
--- A variable is cheapest: it improves, no improving variable costs less, and none with the same
--- cost has a smaller number.
+-- Variable q is the cheapest: it improves, no improving variable costs less, and of those with the
+-- same cost it has the smallest number. `Costs` says what a variable costs at a dictionary.
 pub record IsCheapest (Costs : Dictionary → ℕ → ℕ → Type 0) (d : Dictionary) (q : ℕ) : Type 0 where
   pub improves : Improves d q
   pub cost : ℕ
@@ -14,12 +14,14 @@ pub record IsCheapest (Costs : Dictionary → ℕ → ℕ → Type 0) (d : Dicti
 pub cheapest_improves : (Costs : Dictionary → ℕ → ℕ → Type 0) (d : Dictionary) (q : ℕ) → IsCheapest Costs d q → Improves d q
 cheapest_improves Costs d q cheapest = cheapest.improves
 
--- the better of two: the one that costs less, and of equal ones the first
+-- `better` is whichever costs less, `other` or the best candidate so far; the best so far if both
+-- cost the same, and `other` if there is none so far
 abbrev pub IsCheaper : Option Candidate → Candidate → Candidate → Type 0
 IsCheaper None other better = better ≡ other
 IsCheaper (Some best) other better = ((best.cost ≤ other.cost) × (better ≡ best)) ⊎ ((other.cost < best.cost) × (better ≡ other))
 
--- a variable is tried: if it does not improve the best stays, else the better of the two is taken
+-- the best candidate after variable v is tried: the best so far if v does not improve, else the
+-- cheaper of that and v
 abbrev pub IsTried : (Dictionary → ℕ → ℕ → Type 0) → Dictionary → ℕ → Option Candidate → Option Candidate → Type 0
 IsTried Costs d v best after =
     (¬ (Improves d v) × (after ≡ best))

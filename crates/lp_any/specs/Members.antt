@@ -1,5 +1,5 @@
--- The rules that are tried in turn, and their answers (Chvatal, Linear Programming, chapters 2 and
--- 3).
+-- The rules that the solver `any` tries in sequence, and their answers (Chvatal, Linear
+-- Programming, chapters 2 and 3).
 use Rattle.std.specs.Prelude.{ℕ, zero, suc, ◌<◌, List, [], ◌∷◌}
 use Rattle.gq_number.specs.Number.{Number}
 use Rattle.lp_core.specs.declared.answer.Answer.{Answer}
@@ -16,24 +16,26 @@ use Rattle.lp_any.specs.Shuffles.{ShuffledAt}
 use Rattle.lp_any.specs.declared.members.Member.{Member}
 use Rattle.lp_any.specs.declared.members.Member.TheVariants as member
 
--- how many rules are tried
+-- how many rules are tried at most, the shuffles included
 abbrev pub rule_count : ℕ
 rule_count = 23
 
--- the rule at a place of a list; after its last one the shuffles, from 0 on
+-- the n-th rule of a list, from 0; after the last of them come the shuffles, numbered from 0
 abbrev pub rule_after : List Member → ℕ → Member
 rule_after [] n = member.Shuffle n
 rule_after (rule ∷ rules) zero = rule
 rule_after (rule ∷ rules) (suc n) = rule_after rules n
 
--- the rules in the order in which they are tried, from 0 on: seven, and then the shuffles
+-- the rule that is tried at this place in the sequence, from 0: first the seven in the list, then
+-- the shuffles
 abbrev pub rule_at : ℕ → Member
 rule_at place =
     rule_after (member.Steepest ∷ member.Shortest ∷ member.GainForBits ∷ member.ShortInRow ∷ member.ShortInBoth ∷ member.Largest ∷ member.Bland ∷ []) place
 
 module _ {F : Type 0} (value : F → Number) (limit : ℕ) where
-  -- An answer by one of the rules. Steepest edge may pick any improving variable before the turn to
-  -- Bland's rule; the others state which one.
+  -- An answer of the program by one of the rules, with at most `iterlim` pivots. Before the turn to
+  -- Bland's rule, any improving variable may enter by Steepest; each other rule states which one
+  -- enters.
   abbrev pub IsAnswerOf : Member → Lp F → ℕ → Answer F → Type 0
   IsAnswerOf member.Steepest lp iterlim answer = IsTurningAnswer value limit Improves lp iterlim answer
   IsAnswerOf member.Shortest lp iterlim answer = IsTurningAnswer value limit (IsCheapest (IsCostBy limit LengthAt)) lp iterlim answer
@@ -44,15 +46,16 @@ module _ {F : Type 0} (value : F → Number) (limit : ℕ) where
   IsAnswerOf member.Bland lp iterlim answer = IsAnswer value limit lp iterlim Bland answer
   IsAnswerOf (member.Shuffle n) lp iterlim answer = IsTurningAnswer value limit (IsCheapest (IsCostBy limit (ShuffledAt n))) lp iterlim answer
 
-  -- a rule has an answer that is Refused
+  -- the program has an answer by this rule that is Refused, as a step exceeds the limit
   abbrev pub IsRefusedBy : Member → Lp F → ℕ → Type 0
   IsRefusedBy rule lp iterlim = (answer : Answer F) × IsAnswerOf rule lp iterlim answer × IsRefusedEnd answer.end
 
-  -- each of the first rules has an answer that is Refused
+  -- by each of the first `count` rules the program has an answer that is Refused
   abbrev pub AreRefused : ℕ → Lp F → ℕ → Type 0
   AreRefused count lp iterlim = (place : ℕ) → place < count → IsRefusedBy (rule_at place) lp iterlim
 
-  -- An answer by one of the rules that are tried, all before which are refused.
+  -- An answer by one of the rules that are tried, where by each earlier rule the program has an
+  -- answer that is Refused.
   pub record IsAnswerInTurn (lp : Lp F) (iterlim : ℕ) (answer : Answer F) : Type 0 where
     pub place : ℕ
     pub tried : place < rule_count

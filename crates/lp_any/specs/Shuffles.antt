@@ -1,4 +1,5 @@
--- The cost of a variable's entering, by its gain and the handicap that a shuffle gives it.
+-- The cost of a variable's entering by a shuffle, a rule that varies the order of the variables: by
+-- the gain of its pivot, and by a handicap, a small number that the shuffle adds to its cost.
 use Rattle.std.specs.Prelude.{◌≡◌, ℕ, ◌+◌, ◌*◌, ◌-◌, ◌/◌, ◌%◌, ◌^◌, nat_abs}
 use Rattle.gq_number.specs.Number.{Number}
 use Rattle.lp_core.specs.Dictionary.{Dictionary, constant_at, entry_at, IsPriced}
@@ -14,13 +15,14 @@ factor shuffle = (2 * shuffle + 1) * 2654435761 % 2 ^ 32
 abbrev pub handicap : ℕ → ℕ → ℕ
 handicap shuffle v = v * factor shuffle % 2 ^ 32 / 268435456
 
--- the bits of the numerator of a pivot number and the handicap, less twice the bits of the gain,
--- and 2000
+-- the cost of a pivot: the bits of the pivot number's numerator plus the variable's handicap, less
+-- twice the bits of the gain (`gain_above` less `gain_below`), plus 2000
 abbrev pub cost_with_handicap : Number → Number → Number → ℕ → ℕ
 cost_with_handicap coefficient constant number handicap =
     2000 + bits (nat_abs number.numerator) + handicap + 2 * gain_below coefficient constant number - 2 * gain_above coefficient constant number
 
--- the cost by the gain and the handicap of a shuffle
+-- n is the cost by this shuffle of v, which pivots in row k: by the gain, the pivot number's
+-- numerator and the handicap of v; j is the priced row
 abbrev pub ShuffledAt : ℕ → Dictionary → ℕ → ℕ → ℕ → Type 0
 ShuffledAt shuffle d v k n =
     (j : ℕ) × IsPriced d j × (n ≡ cost_with_handicap (entry_at d j v) (constant_at d k) (entry_at d k v) (handicap shuffle v))

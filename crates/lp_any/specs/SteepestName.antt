@@ -1,4 +1,4 @@
--- That this is the name of a solver.
+-- This name has the form of a solver's name.
 use Rattle.std.proofs.Common.{codes, refl, arith}
 use Rattle.lp_slot.specs.SolverNames.{IsSolverName}
 

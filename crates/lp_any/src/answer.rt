@@ -23,13 +23,14 @@ fn is_refused<F: ExactField>(end: &End<F>) -> bool
 }
 
 /// The answer of a program by the first of several rules whose answer is not Refused, each with at
-/// most `iterlim` pivots; if all are refused, the answer by Bland's rule: Chvatal, Linear
+/// most `iterlim` pivots; if all are Refused, the answer by Bland's rule: Chvatal, Linear
 /// Programming, chapters 2 and 3.
 ///
 /// Numbers grow along the pivots, and another sequence of pivots may keep them within the limit of
-/// the field. The answer is Refused only if each of the rules is refused. Its pivots are those of
-/// the rule that gives it: the turn bounds them, and with a limit of at least the bound the end is
-/// not Interrupted. The error is out of memory.
+/// the field. The answer is Refused only if the answer of each rule is Refused. It has only the
+/// pivots of the rule that gives it. Each rule turns to Bland's rule after a long run of degenerate
+/// pivots. This bounds the number of pivots, and if `iterlim` is at least the bound, the end is not
+/// Interrupted. The error is out of memory.
 pub fn solve_in<F: ExactField>(
     alloc: Global,
     lp: &Lp<F>,

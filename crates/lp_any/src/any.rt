@@ -17,8 +17,8 @@ use lp_slot::{LpSolver, SolverRule};
 use std::alloc::{AllocError, Global};
 use std::marker::Model;
 
-/// The solver by several rules in turn: it gives the first answer that is not Refused, with its
-/// pivots.
+/// The solver that tries several rules in sequence. It gives the first answer that is not Refused,
+/// with the pivots of this answer; if all are Refused, it gives the answer by Bland's rule.
 #[derive(Drop)]
 pub struct Any {
     taken: Vec<Sequence<Pivot>>,
@@ -34,7 +34,7 @@ impl Model for Any {
 }
 
 impl Any {
-    /// A solver that has given no answer. It keeps the allocator and takes no memory.
+    /// A solver that has given no answer yet. It stores the allocator; this call allocates nothing.
     pub fn new(alloc: Global) -> Any
         ensures { result ≡ [] }
     {
@@ -63,9 +63,10 @@ impl LpSolver for Any {
         self.taken.as_slice()
     }
 
-    /// The answer of a program by the first rule that is not refused. It is Refused only if each
-    /// rule is, Bland's included. The turn bounds the pivots of the answer, and with a limit of at
-    /// least the bound the end is not Interrupted.
+    /// The answer of a program by the first rule whose answer is not Refused. It is Refused only if
+    /// that of each rule is, Bland's included. Each rule turns to Bland's after a long run of
+    /// degenerate pivots; this bounds the number of pivots, and if `iterlim` is at least the bound,
+    /// the end is not Interrupted.
     fn solve(
         &mut self,
         alloc: Global,

@@ -41,7 +41,8 @@ fn denominator_in<F: ExactField>(dict: &Dict<F>, row: usize) -> u128
     common
 }
 
-/// The least common denominator of the row of a basic variable; 1 if it is not basic.
+/// The common denominator of the numbers in the row of a basic variable, but at most 2^128 - 1; 1
+/// if the variable is not basic.
 pub(crate) fn denominator_of_row<F: ExactField>(dict: &Dict<F>, basic: u32) -> u128
     ensures { (k : ℕ) → slice_get dict.now.basic k ≡ Some basic → result ≡ common.row_denominator (dictionary F.value dict.now) k (dict.now.variables + 2) }
 {
@@ -52,7 +53,8 @@ pub(crate) fn denominator_of_row<F: ExactField>(dict: &Dict<F>, basic: u32) -> u
     }
 }
 
-/// The least common denominator of a variable's numbers in the rows and in the objective.
+/// The common denominator of a variable's coefficients in the rows and in the objective, but at
+/// most 2^128 - 1.
 pub(crate) fn denominator_of_column<F: ExactField>(dict: &Dict<F>, variable: u32) -> u128
     requires { variable ≤ dict.now.variables }
     ensures { result ≡ common.column_denominator (dictionary F.value dict.now) (variable + 1) (length dict.now.basic + 1) }

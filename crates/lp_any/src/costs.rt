@@ -7,18 +7,18 @@ ghost use Rattle.lp_any.specs.Costs.{IsCheaper, IsCheapest, IsTried};
 use gq_field::ExactField;
 use lp_dict::Dict;
 
-/// A cost of each variable that improves, by which the one to enter is picked.
+/// A rule that gives each improving variable a cost, and picks the cheapest to enter.
 pub(crate) trait Costing<F: ExactField>: Drop {
-    /// That a number is the cost of a variable at a dictionary, by a rule.
+    /// Whether this number is the cost of a variable at a dictionary by a rule.
     ghost costs: { Self → Dictionary → ℕ → ℕ → Type 0 };
 
-    /// The cost of this variable's entering.
+    /// The cost of an improving variable at a dictionary.
     fn cost(&self, dict: &Dict<F>, variable: u32) -> u32
         requires { Improves (dictionary F.value dict.now) variable }
         ensures { costs self.now (dictionary F.value dict.now) variable result };
 }
 
-/// A variable, and the cost of its entering.
+/// An improving variable, and its cost.
 #[derive(Clone, Copy)]
 pub(crate) struct Candidate {
     variable: u32,
@@ -51,7 +51,7 @@ fn tried<C: Costing<F>, F: ExactField>(
     Some(better(best, Candidate { variable, cost }))
 }
 
-/// The improving variable that costs least, and of equal ones the least. None exactly if no
+/// The improving variable that costs least, and of several such the least. `None` exactly if no
 /// variable improves.
 pub(crate) fn cheapest<C: Costing<F>, F: ExactField>(rule: &C, dict: &Dict<F>) -> Option<u32>
     ensures { MatchOption result ((v : ℕ) → ¬ (Improves (dictionary F.value dict.now) v)) (IsCheapest (C.costs rule.now) (dictionary F.value dict.now)) }

@@ -1,7 +1,7 @@
-//! The variables with the greatest coefficients.
+//! A list of the variables with the greatest coefficients.
 use crate::size::Size;
 
-/// The greatest number of variables in the list.
+/// The greatest number of variables in such a list.
 pub(crate) const MOST: usize = 128;
 
 /// A variable, and the size of its coefficient.
@@ -11,8 +11,8 @@ pub(crate) struct Leader {
     pub(crate) gain: Size,
 }
 
-/// The variables with the greatest coefficients of those that were added, and of equal ones the
-/// first. The greatest of all is at place 0.
+/// The variables with the greatest coefficients of those that were added, and of equal ones those
+/// with the smaller number. The greatest of all is at position 0.
 #[derive(Drop)]
 pub(crate) struct Leaders {
     list: [Leader; MOST],
@@ -20,8 +20,8 @@ pub(crate) struct Leaders {
     count: usize,
     /// How many variables the list may have.
     within_bound: usize,
-    /// When the list is full, the place of the variable with the least coefficient, and of equal
-    /// ones the greatest.
+    /// When the list is full, the position of the variable with the least coefficient, and of equal
+    /// ones of that with the greatest number.
     last: usize,
 }
 
@@ -40,7 +40,7 @@ impl Leaders {
         }
     }
 
-    /// The variable at a place; none past the end.
+    /// The variable at this position of the list; `None` past the end.
     pub(crate) fn at(&self, place: usize) -> Option<Leader> {
         if place < self.count && place < MOST {
             Some(self.list[place])
@@ -78,8 +78,8 @@ impl Leaders {
         first
     }
 
-    /// Adds a variable that is greater than those before it. If the list is full, it replaces the
-    /// last one, provided that its coefficient is greater.
+    /// Adds a variable whose number is greater than those added before. If the list is full, the
+    /// variable replaces the last one, provided that its coefficient is greater.
     pub(crate) fn add(&mut self, other: Leader) {
         let other = self.exchanged(other);
         if self.count < self.within_bound && self.count < MOST {

@@ -8,9 +8,9 @@ use lp_dict::Dict;
 use lp_simplex::Picking;
 
 /// Steepest edge over limiting rows: the variable enters along whose edge the objective grows most
-/// for its length, where the length counts the rows that limit the variable: Goldfarb and Reid, "A
-/// practicable steepest-edge simplex algorithm"; Chvatal, Linear Programming, chapter 2. It
-/// remembers nothing.
+/// for the edge's length. The length counts only the rows that limit the variable, those with a
+/// coefficient above 0: Goldfarb and Reid, "A practicable steepest-edge simplex algorithm";
+/// Chvatal, Linear Programming, chapter 2. The rule remembers no pivots.
 #[derive(Drop)]
 pub(crate) struct Limiting;
 

@@ -1,4 +1,5 @@
-//! Rules that depend on the number on which a variable would pivot.
+//! Rules that depend on the pivot number of a variable, its coefficient in the row of the leaving
+//! variable.
 ghost use Rattle.std.specs.Prelude.{◌≡◌, ◌≤◌};
 ghost use Rattle.lp_any.specs.Costs.{IsCheapest, cheapest_improves};
 ghost use Rattle.lp_any.specs.Measures as measures;
@@ -9,33 +10,34 @@ use gq_field::ExactField;
 use lp_dict::Dict;
 use lp_simplex::Picking;
 
-/// The cost of a variable if a step of its ratio test does not fit: above that of any other.
+/// The cost of a variable if a step of its ratio test does not fit: greater than any other cost.
 pub(crate) const STOPS: u32 = 10_000;
 
 /// The rule of the shortest pivot number: the variable enters whose pivot number has the fewest
 /// bits, numerator and denominator together, which keeps the next dictionary's numbers short. It
-/// remembers nothing.
+/// remembers no pivots.
 #[derive(Drop)]
 pub(crate) struct Shortest;
 
-/// The rule of gain: the variable enters with the most bits of gain, less those of its pivot
-/// number's numerator. It remembers nothing.
+/// The rule of gain for bits: the variable enters whose pivot has the most bits of gain, less the
+/// bits of its pivot number's numerator. The gain is the coefficient times the leaving row's
+/// constant over the pivot number. The rule remembers no pivots.
 #[derive(Drop)]
 pub(crate) struct GainForBits;
 
-/// The variable enters whose pivot number has the fewest bits, counted twice, less those of the
-/// gain. The bits are those of the integer over the common denominator of its row. It remembers
-/// nothing.
+/// The variable enters whose pivot number has the fewest bits, counted twice, less the bits of the
+/// gain. The bits are those of the pivot number over the common denominator of its row. The rule
+/// remembers no pivots.
 #[derive(Drop)]
 pub(crate) struct ShortInRow;
 
-/// The variable enters whose pivot number has the fewest bits, less three times those of the gain.
-/// The bits are those of two integers: over the common denominator of its row, and over that of its
-/// column. It remembers nothing.
+/// The variable enters whose pivot number has the fewest bits, less three times the bits of the
+/// gain. The bits are those of the pivot number over the common denominator of its row, plus those
+/// over that of its column. The rule remembers no pivots.
 #[derive(Drop)]
 pub(crate) struct ShortInBoth;
 
-/// How many bits a whole number has.
+/// How many bits an unsigned integer has; 0 for 0.
 pub(crate) fn bits(number: u128) -> u32
     ensures value { result ≡ measures.bits number }
     ensures most { result ≤ 128 }
@@ -51,15 +53,16 @@ fn length_of<F: ExactField>(number: F) -> u32
     bits(numerator.unsigned_abs()) + bits(denominator)
 }
 
-/// The bits of a gain: those of a numerator, less those of a denominator.
+/// The bits of a pivot's gain: those of the integers in its numerator (`above`) and in its
+/// denominator (`below`).
 #[derive(Clone, Copy)]
 pub(crate) struct Gain {
     pub(crate) above: u32,
     pub(crate) below: u32,
 }
 
-/// The bits of the gain, from a coefficient, the constant of the leaving variable's row, and the
-/// pivot number in it.
+/// The bits of a pivot's gain, from the entering variable's coefficient in the priced row, the
+/// constant of the leaving variable's row, and the pivot number in that row.
 pub(crate) fn gain_of<F: ExactField>(coefficient: F, constant: F, number: F) -> Gain
     ensures above { result.above ≡ measures.gain_above (F.value coefficient) (F.value constant) (F.value number) }
     ensures below { result.below ≡ measures.gain_below (F.value coefficient) (F.value constant) (F.value number) }

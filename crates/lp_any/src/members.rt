@@ -13,33 +13,36 @@ use lp_core::{Answer, Lp};
 use lp_simplex::solve_with;
 use std::alloc::{AllocError, Global};
 
-/// A rule that is tried.
+/// A rule by which the solver `any` tries to find an answer. All but Largest and Bland compare the
+/// pivots that the improving variables would make, and choose the entering variable by them.
 #[derive(Clone, Copy)]
 pub enum Member {
-    /// Steepest edge over the rows that limit a variable.
+    /// Steepest edge, where an edge's length counts only the rows that limit the entering variable.
     Steepest,
-    /// The shortest pivot number.
+    /// The pivot number with the fewest bits.
     Shortest,
-    /// The bits of the gain, less those of the pivot number.
+    /// The most bits of the pivot's gain, less those of the pivot number.
     GainForBits,
-    /// The shortest pivot number over the denominator of its row, less the bits of the gain.
-    ShortInRow,
-    /// The shortest pivot number over the denominators of its row and its column, less the bits of
+    /// The fewest bits of the pivot number over the common denominator of its row, less those of
     /// the gain.
+    ShortInRow,
+    /// The fewest bits of the pivot number over the common denominators of its row and of its
+    /// column, less those of the gain.
     ShortInBoth,
-    /// The largest coefficient.
+    /// The largest coefficient in the priced row.
     Largest,
     /// Bland's rule.
     Bland,
-    /// The bits of the gain counted twice, less those of the pivot number and less a handicap that
-    /// the shuffle with this number gives.
+    /// The most bits of the gain, counted twice, less those of the pivot number and less a
+    /// handicap, a number from 0 to 15 that the shuffle with this number gives the variable.
     Shuffle(u8),
 }
 
-/// How many rules are tried.
+/// How many rules are tried at most.
 pub(crate) const RULES: u8 = 23;
 
-/// The rules in the order in which they are tried, from 0 on: seven, and then the shuffles.
+/// The rule that is tried at this place in the sequence, from 0: first these seven, then the
+/// shuffles.
 pub(crate) fn rule_at(place: u8) -> Member
     ensures { result ≡ members.rule_at place }
 {
@@ -55,9 +58,10 @@ pub(crate) fn rule_at(place: u8) -> Member
     }
 }
 
-/// The answer of a program by one of the rules, found by at most `iterlim` pivots: Chvatal, Linear
-/// Programming, chapters 2 and 3. The turn to Bland's rule bounds the pivots, and with a limit of
-/// at least the bound the end is not Interrupted. The error is out of memory.
+/// The answer of a program by the rule `member`, found by at most `iterlim` pivots: Chvatal, Linear
+/// Programming, chapters 2 and 3. Each rule turns to Bland's rule after a long run of degenerate
+/// pivots. This bounds the number of pivots, and if `iterlim` is at least the bound, the end is not
+/// Interrupted. The error is out of memory.
 pub fn answer_of<F: ExactField>(
     alloc: Global,
     lp: &Lp<F>,

@@ -39,8 +39,8 @@ fn cost_with_handicap<F: ExactField>(coefficient: F, constant: F, number: F, han
 }
 
 /// The rule of a shuffle: the variable enters with the most bits of gain, counted twice, less those
-/// of its pivot number's numerator and less the handicap that the shuffle gives it. It remembers
-/// nothing.
+/// of its pivot number's numerator and less the handicap that the shuffle gives it. The rule
+/// remembers no pivots.
 #[derive(Drop)]
 pub(crate) struct Shuffle {
     /// The shuffle's number, from 0 on.

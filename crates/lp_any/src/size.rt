@@ -67,7 +67,7 @@ fn quotient_by_bits(numerator: u128, denominator: u128) -> u128 {
 }
 
 impl Size {
-    /// A size above that of any number.
+    /// A size greater than that of any number.
     pub(crate) fn endless() -> Size {
         Size {
             exponent: i32::MAX,
@@ -75,12 +75,12 @@ impl Size {
         }
     }
 
-    /// A somewhat greater size: a few steps with sizes cut off less than what is added.
+    /// A somewhat greater size, by more than the rounding of a few operations on sizes loses.
     pub(crate) fn raised(self) -> Size {
         leading(self.word.wrapping_add(8), self.exponent)
     }
 
-    /// The size of a whole number.
+    /// The size of an integer.
     pub(crate) fn of(number: u128) -> Size {
         leading_of_two(number, 0)
     }
@@ -118,7 +118,7 @@ impl Size {
         }
     }
 
-    /// The size of the product.
+    /// The size of the product of two numbers of these sizes.
     pub(crate) fn times(self, other: Size) -> Size {
         leading(
             self.word.wrapping_mul(other.word),
@@ -126,7 +126,7 @@ impl Size {
         )
     }
 
-    /// The size of the quotient; 0 if the other is 0.
+    /// The size of the quotient of two numbers of these sizes; 0 if the divisor has the size 0.
     pub(crate) fn over(self, other: Size) -> Size {
         let word = match self.word.wrapping_shl(32).checked_div(other.word) {
             Some(word) => word,
@@ -136,7 +136,7 @@ impl Size {
         leading(word, exponent.wrapping_sub(32))
     }
 
-    /// The size of the sum.
+    /// The size of the sum of two numbers of these sizes.
     pub(crate) fn plus(self, other: Size) -> Size {
         if self.exponent < other.exponent {
             return other.above(self);

@@ -17,9 +17,11 @@ use lp_slot::{LpSolver, SolverRule};
 use std::alloc::{AllocError, Global};
 use std::marker::Model;
 
-/// The solver by steepest edge over the rows that limit a variable: Goldfarb and Reid, "A
-/// practicable steepest-edge simplex algorithm". Of the tied variables the least leaves. After long
-/// without gain it turns to Bland's rule, which does not cycle.
+/// The solver by steepest edge: Goldfarb and Reid, "A practicable steepest-edge simplex algorithm".
+/// The length of an edge counts only the rows that limit how far the entering variable rises. Of
+/// the variables that tie in the ratio test the one with the least number leaves. After a long run
+/// of degenerate pivots the solver uses Bland's rule, which does not cycle, to the end of the
+/// phase.
 #[derive(Drop)]
 pub struct Steepest {
     taken: Vec<Sequence<Pivot>>,
@@ -35,7 +37,7 @@ impl Model for Steepest {
 }
 
 impl Steepest {
-    /// A solver that has given no answer. It keeps the allocator and takes no memory.
+    /// A solver that has given no answer yet. It stores the allocator; this call allocates nothing.
     pub fn new(alloc: Global) -> Steepest
         ensures { result ≡ [] }
     {
@@ -64,9 +66,9 @@ impl LpSolver for Steepest {
         self.taken.as_slice()
     }
 
-    /// An answer of a program by steepest edge with the turn to Bland's rule: its pivots are legal,
-    /// and Bland's after the turn. The turn bounds the pivots, and with a limit of at least the
-    /// bound the end is not Interrupted.
+    /// An answer of a program by steepest edge, which turns to Bland's rule after a long run of
+    /// degenerate pivots. Its pivots are legal, and Bland's after the turn. The turn bounds their
+    /// number, and if `iterlim` is at least this bound, the end is not Interrupted.
     fn solve(
         &mut self,
         alloc: Global,

@@ -13,17 +13,17 @@ use lp_core::{Answer, Lp};
 use lp_simplex::solve_with;
 use std::alloc::{AllocError, Global};
 
-/// The answer of a program by steepest edge over the rows that limit a variable, found by at most
-/// `iterlim` pivots: Goldfarb and Reid, "A practicable steepest-edge simplex algorithm"; Chvatal,
-/// Linear Programming, chapters 2 and 3.
+/// An answer of a program by steepest edge, found by at most `iterlim` pivots: Goldfarb and Reid,
+/// "A practicable steepest-edge simplex algorithm"; Chvatal, Linear Programming, chapters 2 and 3.
+/// The length of an edge counts only the rows that limit how far the entering variable rises.
 ///
-/// Of the tied variables the least leaves. After as many successive pivots without gain as there
-/// are variables, Bland's rule takes over to the end of the phase. Optimal, Infeasible and
-/// Unbounded come with their certificates. Interrupted is the end after exactly `iterlim` pivots
-/// when a further one is required. Refused has the first step that does not fit under the limit of
-/// the field. The turn bounds the pivots, and with a limit of at least the bound the end is not
-/// Interrupted. No contract states which improving variable enters before the turn: no answer
-/// depends on it. The error is out of memory.
+/// Of the variables that tie in the ratio test the one with the least number leaves. After as many
+/// successive degenerate pivots as there are variables, Bland's rule takes over to the end of the
+/// phase (the turn). Optimal, Infeasible and Unbounded come with their certificates. Interrupted is
+/// the end after exactly `iterlim` pivots if a further pivot is required. Refused has the first
+/// step whose result does not fit under the limit of the field. The turn bounds the number of
+/// pivots, and if `iterlim` is at least this bound, the end is not Interrupted. No contract states
+/// which improving variable enters before the turn. The error is out of memory.
 pub fn solve_in<F: ExactField>(
     alloc: Global,
     lp: &Lp<F>,

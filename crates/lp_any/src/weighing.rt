@@ -1,4 +1,5 @@
-//! The worth of a variable's entering, and the variable that is worth most.
+//! The worth of a variable's entering, which is the square of its coefficient over the length of
+//! its edge, and the variable that is worth most.
 ghost use Rattle.std.specs.Prelude.{◌≤◌, ◌+◌, ℕ, length, MatchOption};
 ghost use Rattle.lp_core.specs.Dictionary.{OpeningIsRequired, Improves};
 ghost use Rattle.lp_dict.specs.Tableau.{dictionary};
@@ -121,8 +122,8 @@ fn weighed<F: ExactField>(
     }
 }
 
-/// The variable worth most of those with the greatest coefficients, and of equal ones the least.
-/// None exactly if no variable improves.
+/// The variable worth most among those with the greatest coefficients, and of equal ones the least.
+/// `None` exactly if no variable improves.
 pub(crate) fn worthiest<F: ExactField>(dict: &Dict<F>) -> Option<u32>
     requires { ¬ (OpeningIsRequired (dictionary F.value dict.now)) }
     ensures { MatchOption result ((v : ℕ) → ¬ (Improves (dictionary F.value dict.now) v)) (Improves (dictionary F.value dict.now)) }

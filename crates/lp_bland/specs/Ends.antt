@@ -1,8 +1,8 @@
--- Which ends are refusals.
+-- Which ends are Refused.
 use Rattle.lp_core.specs.declared.answer.End.{End}
 use Rattle.lp_core.specs.declared.answer.End.TheVariants.{Refused}
 
--- an end is a step that does not fit
+-- the end is Refused: a step does not fit
 abbrev pub IsRefusedEnd : {F : Type 0} → End F → Type 0
 IsRefusedEnd (Refused step) = Unit {0}
 IsRefusedEnd other = ⊥

@@ -1,4 +1,4 @@
--- That what Bland's rule chooses improves.
+-- A variable that Bland's rule chooses improves.
 use Rattle.std.specs.Prelude.{ℕ}
 use Rattle.lp_core.specs.declared.answer.Rule.TheVariants.{Bland}
 use Rattle.lp_core.specs.Dictionary.{Dictionary, Improves}

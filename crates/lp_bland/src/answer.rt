@@ -14,7 +14,9 @@ use lp_dict::Dict;
 use lp_simplex::{Choosing, solve_by};
 use std::alloc::{AllocError, Global};
 
-/// Bland's choice: the least variable that improves enters. It remembers nothing.
+/// Bland's choice of the entering variable: of the variables that improve the objective of the
+/// phase, the one with the least number. The choice depends on the dictionary alone, not on the
+/// pivots so far.
 #[derive(Drop)]
 pub struct Least;
 
@@ -39,11 +41,12 @@ impl<F: ExactField> Choosing<F> for Least {
 /// The only answer of a program under Bland's rule, found by at most `iterlim` pivots: Bland, "New
 /// finite pivoting rules for the simplex method"; Chvatal, Linear Programming, chapter 3.
 ///
-/// Optimal, Infeasible and Unbounded come with their certificates. Interrupted is the end after
-/// exactly `iterlim` pivots when a further one is required. Refused has the first step that does
-/// not fit under the limit of the field. No basis repeats, so there are fewer pivots than twice the
-/// number of sets of the variables of the standard form, slacks and variable 0 included. With a
-/// limit of at least that many the end is not Interrupted. The only error is out of memory.
+/// An answer whose end is Optimal, Infeasible or Unbounded has a certificate of this end.
+/// Interrupted is the end after exactly `iterlim` pivots if a further one is required. Refused has
+/// the first step that does not fit under the limit of the field. There are fewer than `2 * 2^v`
+/// pivots, where v is the number of variables of the standard form, slacks and variable 0 included.
+/// So the end is not Interrupted if `iterlim` is at least `2 * 2^v`. The only error is out of
+/// memory.
 pub fn solve_in<F: ExactField>(
     alloc: Global,
     lp: &Lp<F>,

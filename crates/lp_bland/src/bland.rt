@@ -16,7 +16,9 @@ use lp_slot::{LpSolver, SolverRule};
 use std::alloc::{AllocError, Global};
 use std::marker::Model;
 
-/// Bland's solver: the least variable that improves enters, and of the tied ones the least leaves.
+/// The solver by Bland's rule: of the variables that improve the one with the least number enters,
+/// and of those that tie in the ratio test the one with the least number leaves. Contracts see it
+/// as the list of the pivots of each answer so far.
 #[derive(Drop)]
 pub struct Bland {
     taken: Vec<Sequence<Pivot>>,
@@ -32,7 +34,7 @@ impl Model for Bland {
 }
 
 impl Bland {
-    /// A solver that has given no answer. It keeps the allocator and takes no memory.
+    /// A solver that has not given any answer yet. It stores the allocator and allocates nothing.
     pub fn new(alloc: Global) -> Bland
         ensures { result ≡ [] }
     {
@@ -61,9 +63,9 @@ impl LpSolver for Bland {
         self.taken.as_slice()
     }
 
-    /// The only answer of a program under Bland's rule. No basis repeats, so there are fewer pivots
-    /// than twice the number of sets of the variables of the standard form, slacks and variable 0
-    /// included. With a limit of at least that many the end is not Interrupted.
+    /// The only answer of a program under Bland's rule. No basis repeats in a phase, so there are
+    /// fewer pivots than twice the number of sets of the variables of the standard form, slacks and
+    /// variable 0 included. If `iterlim` is at least that many, the end is not Interrupted.
     fn solve(
         &mut self,
         alloc: Global,

@@ -18,115 +18,133 @@ use Rattle.lp_core.specs.DualBound.{row_lower, row_upper, objective_costs, no_co
 use Rattle.lp_core.specs.DualBound as dual
 use Rattle.lp_core.specs.Steps.{ExpectedStep, AllFit, FirstStop, product_fits, difference_fits, asks_nothing}
 
--- a product, and its sum with a number; no steps without a bound to multiply by
+-- whether each step fits that adds a factor times a bound to the sum s: the product, then the sum;
+-- no steps without a bound
 abbrev pub plus_steps : ℕ → Number → Number → Option Number → List Bool
 plus_steps limit s factor None = []
 plus_steps limit s factor (Some bound) = product_fits limit factor bound ∷ sum_fits limit s (factor *ℚ bound) ∷ []
 
--- the sum after these steps
+-- the sum s plus a factor times a bound; s itself without a bound
 abbrev pub plus_product : Number → Number → Option Number → Number
 plus_product s factor None = s
 plus_product s factor (Some bound) = s +ℚ factor *ℚ bound
 
--- a product, and a number less it; no steps without an entry to multiply by
+-- whether each step fits that subtracts a factor times an entry from the number s: the product,
+-- then the difference; no steps without an entry
 abbrev pub less_steps : ℕ → Number → Number → Option Number → List Bool
 less_steps limit s factor None = []
 less_steps limit s factor (Some entry) = product_fits limit factor entry ∷ difference_fits limit s (factor *ℚ entry) ∷ []
 
--- the difference after these steps
+-- the number s less a factor times an entry; s itself without an entry
 abbrev pub less_product : Number → Number → Option Number → Number
 less_product s factor None = s
 less_product s factor (Some entry) = s -ℚ factor *ℚ entry
 
--- the bound that a factor uses, by how it compares with 0: the first if it is above, the second if
--- below, and none at 0
+-- the bound that a factor uses, by how the factor compares with 0: `first` if it is above, `second`
+-- if below, None at 0
 abbrev pub bound_by_sign : Ordering → Option Number → Option Number → Option Number
 bound_by_sign Greater first second = first
 bound_by_sign Equal first second = None
 bound_by_sign Less first second = second
 
--- the bound that a factor uses, of two
+-- the bound that a factor uses: `first` if it is above 0, `second` if below, None at 0
 abbrev pub bound_used : Number → Option Number → Option Number → Option Number
 bound_used factor first second = bound_by_sign (number_cmp factor (whole (pos 0))) first second
 
--- the entry of a column, if any
+-- the coefficient of column j in these entries; None without an entry of j
 abbrev pub entry_of : {F : Type 0} → (F → Number) → List (ℕ × F) → ℕ → Option Number
 entry_of value [] j = None
 entry_of value (e ∷ entries) j = if e.0 == j then Some (value e.1) else entry_of value entries j
 
--- the entry of a column in a binding row
+-- the coefficient of column j in a row; None without an entry of j, or if the row is nonbinding
 abbrev pub entry_in : {F : Type 0} → (F → Number) → ℕ → Row F → Option Number
 entry_in value j row = if asks_nothing row.sense then None else entry_of value row.entries j
 
--- the bound of a row that its dual uses, for a bound from above or from below
+-- the bound of a row's sum that its dual y uses. For a lower bound of the objective (false) it is
+-- the lower one if y is positive, the upper one if negative; for an upper bound (true) the reverse.
+-- None if y is 0 or that bound does not exist.
 abbrev pub row_bound : {F : Type 0} → (F → Number) → Bool → Row F → Number → Option Number
 row_bound value true row y = bound_used y (row_upper row.sense (value row.right)) (row_lower row.sense (value row.right))
 row_bound value false row y = bound_used y (row_lower row.sense (value row.right)) (row_upper row.sense (value row.right))
 
--- the bound of a column that its reduced cost uses
+-- the bound of a column that its reduced cost d uses. For a lower bound of the objective (false) it
+-- is the lower one if d is positive, the upper one if negative; for an upper bound (true) the
+-- reverse. None if d is 0 or that bound does not exist.
 abbrev pub column_bound : {F : Type 0} → (F → Number) → Bool → Column F → Number → Option Number
 column_bound value true column d = bound_used d (bound_value value column.upper) (bound_value value column.lower)
 column_bound value false column d = bound_used d (bound_value value column.lower) (bound_value value column.upper)
 
--- the sum after the rows' parts
+-- the sum s plus, for each row, its dual times the bound of its sum that the dual uses, for an
+-- upper bound of the objective if `above`, else for a lower one
 abbrev pub rows_sum : {F : Type 0} → (F → Number) → Bool → Number → List (Row F) → List Number → Number
 rows_sum value above s [] duals = s
 rows_sum value above s (row ∷ rows) [] = s
 rows_sum value above s (row ∷ rows) (y ∷ duals) = rows_sum value above (plus_product s y (row_bound value above row y)) rows duals
 
--- the sum after the columns' parts, by their reduced costs
+-- the sum s plus, for each of these columns, its reduced cost times the bound of the column that
+-- this uses, for an upper bound of the objective if `above`, else for a lower one; the first column
+-- has number j
 abbrev pub columns_sum : {F : Type 0} → (F → Number) → Bool → (ℕ → Number) → Number → ℕ → List (Column F) → Number
 columns_sum value above reduced s j [] = s
 columns_sum value above reduced s j (column ∷ columns) =
     columns_sum value above reduced (plus_product s (reduced j) (column_bound value above column (reduced j))) (j + 1) columns
 
 module _ {F : Type 0} (value : F → Number) (limit : ℕ) where
-  -- the steps of a column's reduced cost over these rows, each with its dual, where s is the value
-  -- so far
+  -- whether each step fits that subtracts from s, row by row, the dual times the entry of column j;
+  -- s is the column's cost less what is subtracted so far
   abbrev pub reduced_cost_bound_steps : ℕ → Number → List (Row F) → List Number → List Bool
   reduced_cost_bound_steps j s [] duals = []
   reduced_cost_bound_steps j s (row ∷ rows) [] = []
   reduced_cost_bound_steps j s (row ∷ rows) (y ∷ duals) =
       less_steps limit s y (entry_in value j row) ++ reduced_cost_bound_steps j (less_product s y (entry_in value j row)) rows duals
 
-  -- the steps of the reduced costs of all columns, of which the first has place j
+  -- whether each step fits that computes the reduced costs of these columns, of which the first has
+  -- number j, from their costs
   abbrev pub all_reduced_steps : (ℕ → Number) → List (Row F) → List Number → ℕ → List (Column F) → List Bool
   all_reduced_steps costs rows duals j [] = []
   all_reduced_steps costs rows duals j (column ∷ columns) =
       reduced_cost_bound_steps j (costs j) rows duals ++ all_reduced_steps costs rows duals (j + 1) columns
 
-  -- the steps of the rows' parts, where s is the sum so far
+  -- whether each step fits that adds to the sum s, row by row, the dual times the bound of the
+  -- row's sum that the dual uses, for an upper bound of the objective if `above`, else for a lower
+  -- one
   abbrev pub row_bound_steps : Bool → Number → List (Row F) → List Number → List Bool
   row_bound_steps above s [] duals = []
   row_bound_steps above s (row ∷ rows) [] = []
   row_bound_steps above s (row ∷ rows) (y ∷ duals) =
       plus_steps limit s y (row_bound value above row y) ++ row_bound_steps above (plus_product s y (row_bound value above row y)) rows duals
 
-  -- the steps of the columns' parts, by the columns' reduced costs; the first column has place j
+  -- whether each step fits that adds to the sum s, column by column, the reduced cost times the
+  -- bound that this uses, for an upper bound of the objective if `above`, else for a lower one; the
+  -- first column has number j
   abbrev pub columns_steps : Bool → (ℕ → Number) → Number → ℕ → List (Column F) → List Bool
   columns_steps above reduced s j [] = []
   columns_steps above reduced s j (column ∷ columns) =
       plus_steps limit s (reduced j) (column_bound value above column (reduced j))
       ++ columns_steps above reduced (plus_product s (reduced j) (column_bound value above column (reduced j))) (j + 1) columns
 
-  -- all steps of the bound
+  -- whether each step fits that computes an upper bound (if `above`) or a lower bound of the sum of
+  -- each column's cost times its value: first the reduced costs, then the rows' terms, then the
+  -- columns'
   abbrev pub steps_of_bound : Bool → (ℕ → Number) → Lp F → List Number → List Bool
   steps_of_bound above costs lp duals =
       all_reduced_steps costs lp.rows duals 0 lp.columns
       ++ row_bound_steps above (whole (pos 0)) lp.rows duals
       ++ columns_steps above (reduced_cost value lp costs duals) (rows_sum value above (whole (pos 0)) lp.rows duals) 0 lp.columns
 
-  -- the steps of the bound of the objective, or of 0, numbered from 0
+  -- the steps that compute the bound of the objective (true), or the lower bound of 0 (false),
+  -- numbered from 0, each with whether it fits
   abbrev pub bound_steps : Bool → Lp F → List Number → List ExpectedStep
   bound_steps true lp duals = map (λ (p : ℕ × Bool). (Check p.0, p.1)) (enumerate_from 0 (steps_of_bound lp.maximize (objective_costs lp) lp duals))
   bound_steps false lp duals = map (λ (p : ℕ × Bool). (Check p.0, p.1)) (enumerate_from 0 (steps_of_bound false no_costs lp duals))
 
--- the bound of the objective, or of 0, if each bound that it uses exists
+-- the bound of the objective (true), or the lower bound of 0 (false), that the duals give; None if
+-- a bound that it uses does not exist
 abbrev pub objective_bound : {F : Type 0} → (F → Number) → Bool → Lp F → List Number → Option Number
 objective_bound value true lp duals = dual.dual_bound value lp duals
 objective_bound value false lp duals = dual.low value lp no_costs duals
 
--- the answer is this number if all these steps fit, and else the first step that does not
+-- Ok: all these steps fit, and the answer means this number. Err: the first step that does not fit.
 abbrev pub Bounds : {F : Type 0} → (F → Number) → List ExpectedStep → Option Number → Result F StepName → Type 0
 Bounds value steps number (Ok x) = AllFit steps × (number ≡ Some (value x))
 Bounds value steps number (Err step) = FirstStop steps step

@@ -1,4 +1,5 @@
--- What the functions promise each other: an intermediate number with how many steps it took.
+-- What the crate's functions return to each other: an intermediate number, and how many steps led
+-- to it.
 use Rattle.std.specs.Prelude.{◌≡◌, ℕ, ◌+◌, ◌==◌, if◌then◌else◌, Bool, true, false, List, [], ◌∷◌, ◌++◌, length, pos, Option, Some, None, option_map, Result, Ok, Err}
 use Rattle.gq_number.specs.Number.{Number, whole}
 use Rattle.lp_core.specs.declared.answer.StepName.{StepName}
@@ -9,13 +10,14 @@ use Rattle.lp_core.specs.declared.program.Lp.{Lp}
 use Rattle.lp_check.specs.BoundSteps.{less_steps, less_product, entry_in, all_reduced_steps, row_bound_steps, rows_sum, columns_steps, columns_sum}
 use Rattle.lp_check.specs.declared.partial.Partial.{Partial}
 
--- how many steps fit before the first that does not, if there is one
+-- the number, from 0, of the first step that does not fit; None if all fit
 abbrev pub first_unfit : List Bool → Option ℕ
 first_unfit [] = None
 first_unfit (true ∷ fits) = option_map (λ n. n + 1) (first_unfit fits)
 first_unfit (false ∷ fits) = Some 0
 
--- the step is the first of these that does not fit, after `taken` steps before them
+-- the step is a `Check` step with the number of the first of these steps that does not fit, where
+-- `taken` is the number of the steps before them
 abbrev pub StopsAfterSteps : ℕ → List Bool → StepName → Type 0
 StopsAfterSteps taken fits (Check part) = (n : ℕ) × (first_unfit fits ≡ Some n) × (part ≡ taken + n)
 StopsAfterSteps taken fits (StandardStep row column part) = ⊥
@@ -23,54 +25,60 @@ StopsAfterSteps taken fits (Ratio pivot row) = ⊥
 StopsAfterSteps taken fits (Exchange pivot row column part) = ⊥
 StopsAfterSteps taken fits (Recover what index entry part) = ⊥
 
--- all these steps fit, and `after` counts them and those before
+-- all these steps fit, and `after` is their number plus `before`, the number of the steps before
+-- them
 abbrev pub Took : ℕ → List Bool → ℕ → Type 0
 Took before fits after = (first_unfit fits ≡ None) × (after ≡ before + length fits)
 
--- these steps lead from an intermediate number to another; or the answer is the first that does not
--- fit
+-- Ok: all these steps fit after the `taken` ones before, and give this number. Err: the first that
+-- does not fit.
 abbrev pub Reaches : {F : Type 0} → (F → Number) → ℕ → List Bool → Number → Result (Partial F) StepName → Type 0
 Reaches value taken fits number (Ok p) = Took taken fits p.taken × (value p.sum ≡ number)
 Reaches value taken fits number (Err step) = StopsAfterSteps taken fits step
 
--- all these steps fit, or the answer is the first that does not
+-- Ok: all these steps fit, and `after` counts them and the `taken` ones before. Err: the first that
+-- does not fit.
 abbrev pub TakesSteps : ℕ → List Bool → Result ℕ StepName → Type 0
 TakesSteps taken fits (Ok after) = Took taken fits after
 TakesSteps taken fits (Err step) = StopsAfterSteps taken fits step
 
--- a reduced cost less the parts of these rows, each with its dual
+-- the number s less, for each of these rows, its dual times its entry of column j; s is the
+-- column's cost less what is subtracted so far
 abbrev pub reduced_sum : {F : Type 0} → (F → Number) → ℕ → Number → List (Row F) → List Number → Number
 reduced_sum value j s [] duals = s
 reduced_sum value j s (row ∷ rows) [] = s
 reduced_sum value j s (row ∷ rows) (y ∷ duals) = reduced_sum value j (less_product s y (entry_in value j row)) rows duals
 
--- the reduced costs of columns, by place
+-- the reduced cost of column j: its cost less, for each row, its dual times its entry of the column
 abbrev pub reduced_costs : {F : Type 0} → (F → Number) → (ℕ → Number) → List (Row F) → List Number → ℕ → Number
 reduced_costs value costs rows duals j = reduced_sum value j (costs j) rows duals
 
--- each number has lost a factor times its column's entry, and these steps fit
+-- for each column j, a factor times the column's entry is subtracted from its number, and the steps
+-- of this fit under the limit
 abbrev pub Lessened : ℕ → Number → (ℕ → Option Number) → (ℕ → Number) → (ℕ → Number) → Type 0
 Lessened limit factor entry before after =
     (j : ℕ) → (first_unfit (less_steps limit (before j) factor (entry j)) ≡ None) × (after j ≡ less_product (before j) factor (entry j))
 
--- 1 at the objective, if any, and 0 elsewhere
+-- the cost of column j: 1 if it is the objective, else 0; without an objective each cost is 0
 abbrev pub costs_of : Option ℕ → ℕ → Number
 costs_of None j = whole (pos 0)
 costs_of (Some objective) j = if objective == j then whole (pos 1) else whole (pos 0)
 
--- whether the bound is an upper bound
+-- whether the bound that duals give is an upper bound: of the objective (true), where it is one if
+-- the objective is maximized, or of a sum whose costs are all 0 (false), where it is none
 abbrev pub is_above : {F : Type 0} → Bool → Lp F → Bool
 is_above true lp = lp.maximize
 is_above false lp = false
 
 module _ {F : Type 0} (value : F → Number) (above : Bool) (costs : ℕ → Number) (rows : List (Row F)) (columns : List (Column F)) (duals : List Number) where
-  -- all steps, in order
+  -- whether each step fits that computes the bound: first those of the reduced costs, then those of
+  -- the rows' terms, then those of the columns' terms
   abbrev pub steps_over : ℕ → List Bool
   steps_over limit =
       all_reduced_steps value limit costs rows duals 0 columns
       ++ row_bound_steps value limit above (whole (pos 0)) rows duals
       ++ columns_steps value limit above (reduced_costs value costs rows duals) (rows_sum value above (whole (pos 0)) rows duals) 0 columns
 
-  -- the sum that they compute
+  -- the bound that these steps compute: the sum of the rows' terms and the columns' terms
   abbrev pub sum_over : Number
   sum_over = columns_sum value above (reduced_costs value costs rows duals) (rows_sum value above (whole (pos 0)) rows duals) 0 columns

@@ -80,17 +80,20 @@ fn bound_over<F: ExactField>(
     columns_part(rows, columns, objective, duals, above, part)
 }
 
-/// The bound that dual values give, one for each row: of the objective, or of 0 if `with_objective`
-/// is false.
+/// The bound that `duals`, a factor for each row, give of the objective. If `with_objective` is
+/// false, the number 0 is the objective. The bound has to exist: each bound of a row or a column
+/// that the sum uses is there.
 ///
 /// When minimizing, the bound is at most the objective's value at each feasible point; when
-/// maximizing, at least. The bound of 0 is at most 0 if there is a feasible point. `Check` is the
-/// first step that does not fit under the limit. The steps are, column by column, its reduced cost
-/// over the binding rows with an entry there; then row by row, and column by column, the parts
-/// of the sum, each a product and a sum. Chvatal, Linear Programming, chapters 5 and 9.
+/// maximizing, at least. If there is a feasible point, the bound of the number 0 is at most 0. The
+/// error is `Check`, the first step whose result does not fit under the limit of the field. The
+/// steps are, column by column, those of the reduced cost over the binding rows with an entry of
+/// the column; then, row by row and column by column, those of the terms of the sum. Each entry or
+/// term has two steps, a product and then a sum or a difference. Chvatal, Linear Programming,
+/// chapters 5 and 9.
 ///
-/// Each entry is visited once if all steps fit and there is memory for the reduced costs; else each
-/// column is looked for in each row.
+/// Each entry is visited once if all steps fit and there is memory for the reduced costs; otherwise
+/// each column is looked for in each row.
 pub fn dual_bound<F: ExactField>(
     alloc: Global,
     lp: &Lp<F>,

@@ -16,19 +16,21 @@ use Rattle.lp_core.specs.Steps.{AllFit, FirstStop, standard_steps}
 use Rattle.lp_core.specs.Pivots.{IsChosen, ByRule, ByChoice, LeadsWithin}
 use Rattle.lp_core.specs.Ends.{EndsSoBy}
 
--- the bounds of a column cross: the end is Infeasible, and the first such column proves it
+-- the end is Infeasible with the first column j whose lower bound exceeds its upper bound, and with
+-- the factor 0 for each row
 abbrev pub EndsCrossed : {F : Type 0} → (F → Number) → Lp F → End F → Type 0
 EndsCrossed {F} value lp end = (duals : List F) × (j : ℕ) × (end ≡ Infeasible duals (Some j)) × ProvesCrossed value lp j (map value duals)
 
 -- no bounds cross, but a step of the standard form does not fit: the end is Refused with the first
--- such step
+-- step that does not
 abbrev pub EndsUnformed : {F : Type 0} → (F → Number) → ℕ → Lp F → End F → Type 0
 EndsUnformed value limit lp end =
     FirstCrossed value lp.columns None × ((step : StepName) × (end ≡ Refused step) × FirstStop (standard_steps value limit lp) step)
 
 module _ {F : Type 0} (value : F → Number) (limit : ℕ) (lp : Lp F) (iterlim : ℕ) where
-  -- An answer of a program under a limit of pivots. Which pivots are allowed and which variables
-  -- may be chosen depends on the pivots so far and the dictionary they lead to.
+  -- An answer of a program under a limit of pivots. `Allowed` says which pivots may be made, each
+  -- with the row of its leaving variable, and `Chosen` which variables may enter; both depend on
+  -- the pivots so far and the dictionary they lead to.
   pub data IsAnswerBy (Allowed : List Pivot → Dictionary → Pivot → ℕ → Type 0) (Chosen : List Pivot → Dictionary → ℕ → Type 0) (answer : Answer F) : Type 0 where
     -- the bounds of a column cross
     bounds_cross : answer.pivots ≡ [] → EndsCrossed value lp answer.end → IsAnswerBy Allowed Chosen answer
@@ -41,13 +43,12 @@ module _ {F : Type 0} (value : F → Number) (limit : ℕ) (lp : Lp F) (iterlim 
         EndsSoBy value limit lp iterlim (Allowed answer.pivots last) (Chosen answer.pivots last) (length answer.pivots) last answer.end →
         IsAnswerBy Allowed Chosen answer
 
-  -- an answer under a rule, which does not depend on the pivots so far
+  -- an answer under a rule, by which the next pivot does not depend on the pivots so far
   abbrev pub IsAnswer : Rule → Answer F → Type 0
   IsAnswer rule answer = IsAnswerBy (ByRule rule) (λ done d. IsChosen rule d) answer
 
-  -- An answer by a choice of the entering variable. The choice depends on the first dictionary, the
-  -- pivots so far, the dictionary they lead to, and the variable. Of the tied variables the least
-  -- leaves.
+  -- An answer in which `choice` says which variables may enter. It depends on the first dictionary,
+  -- the pivots so far, and the dictionary they lead to. Of the tied variables the least leaves.
   abbrev pub IsAnswerByChoice : (Dictionary → List Pivot → Dictionary → ℕ → Type 0) → Answer F → Type 0
   IsAnswerByChoice choice answer =
       let first : Dictionary = first_dictionary (standard_form value lp) in

@@ -5,7 +5,7 @@ use Rattle.lp_core.specs.declared.answer.Pivot.{Pivot}
 use Rattle.lp_core.specs.Dictionary.{Dictionary, exchanged}
 use Rattle.lp_core.specs.Pivots.{row_of_basic}
 
--- the row of the variable that leaves
+-- the row of the variable that leaves in a pivot; 0 if this variable is not basic
 abbrev pub leaving_row : Dictionary → Pivot → ℕ
 leaving_row d p = unwrap_or (row_of_basic d p.leave) 0
 
@@ -13,12 +13,12 @@ leaving_row d p = unwrap_or (row_of_basic d p.leave) 0
 abbrev pub after_pivot : Dictionary → Pivot → Dictionary
 after_pivot d p = exchanged d p.enter (leaving_row d p)
 
--- the dictionary that pivots reach
+-- the dictionary that these pivots reach from d
 abbrev pub reached : Dictionary → List Pivot → Dictionary
 reached d [] = d
 reached d (p ∷ pivots) = reached (after_pivot d p) pivots
 
--- each pivot has the property, at the dictionary where it is made
+-- `At` holds for each of the pivots, made one by one from d, and the dictionary at which it is made
 abbrev pub AllAlong : (Dictionary → Pivot → Type 0) → Dictionary → List Pivot → Type 0
 AllAlong At d [] = Unit {0}
 AllAlong At d (p ∷ pivots) = At d p × AllAlong At (after_pivot d p) pivots

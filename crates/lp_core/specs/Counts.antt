@@ -1,6 +1,6 @@
 -- Counts of 64 bits.
 use Rattle.std.specs.Prelude.{ℕ, ◌-◌, ◌^◌, min}
 
--- a saturating count of 64 bits: it stays at the greatest value of 64 bits
+-- the count n, saturated at the greatest value of 64 bits
 abbrev pub counted : ℕ → ℕ
 counted n = min n (2 ^ 64 - 1)

@@ -9,11 +9,11 @@ use Rattle.lp_core.specs.declared.answer.Pivot.{Pivot}
 use Rattle.lp_core.specs.Sums.{value_of_column}
 use Rattle.lp_core.specs.StandardForm.{Standard, StandardRow, of_bound}
 
--- A dictionary: an equation for each basic variable, and the objective. Column 0 of `numbers` is
--- the constant, and column v + 1 belongs to variable v. A basic variable has coefficient 1 in its
--- row. Row k states: column 0 equals the sum of each variable times its coefficient. The row after
--- these is the objective, with its constant negated in column 0. Variable 0 is the artificial
--- variable of phase 1.
+-- A dictionary: an equation for each basic variable, and the objective. `numbers k c` is the number
+-- of row k in column c: the constant in column 0, the coefficient of variable v in column v + 1.
+-- Row k states that the constant equals the sum of each variable times its coefficient, which is 1
+-- for the row's basic variable. The row after these is the objective, with its constant negated in
+-- column 0. Variable 0 is the artificial variable of phase 1.
 pub record Dictionary : Type 0 where
   -- the greatest number of a variable
   pub variables : ℕ
@@ -21,55 +21,57 @@ pub record Dictionary : Type 0 where
   pub basic : List ℕ
   pub numbers : ℕ → ℕ → Number
 
--- the variable of a row
+-- the basic variable of row k; 0 past the last row
 abbrev pub basic_at : Dictionary → ℕ → ℕ
 basic_at d k = slice_index_or d.basic k 0
 
--- the constant of a row
+-- the constant of row k
 abbrev pub constant_at : Dictionary → ℕ → Number
 constant_at d k = d.numbers k 0
 
--- the coefficient of a variable in a row
+-- the coefficient of variable v in row k
 abbrev pub entry_at : Dictionary → ℕ → ℕ → Number
 entry_at d k v = d.numbers k (v + 1)
 
--- the residual of a row at values of all variables: the sum of the terms less the constant
+-- the residual of row k at the values x of all variables: the sum of the terms less the constant
 abbrev pub row_at : Dictionary → ℕ → List Number → Number
 row_at d k x = sum_by_ℚ (λ v. entry_at d k v *ℚ value_of_column x v) (range_with_len 0 (d.variables + 1)) -ℚ constant_at d k
 
--- A list of values, one for each variable, meets the equations, and the objective has this value.
+-- The values x, one for each variable from number 0, satisfy the equations of the dictionary, and
+-- the objective has this value at them.
 pub record Meets (d : Dictionary) (x : List Number) (objective : Number) : Type 0 where
   pub sized : length x ≡ d.variables + 1
   pub rows : (k : ℕ) → k < length d.basic → row_at d k x ≡ whole (pos 0)
   pub objective_row : row_at d (length d.basic) x ≡ objective
 
--- some right side is below 0
+-- whether the right side of some row is below 0
 abbrev pub some_below : Standard → Bool
 some_below s = list_any (λ row. is_lt (number_cmp row.right (whole (pos 0)))) s.rows
 
--- the coefficient of a variable: the sum of its entries
+-- the coefficient of variable v: the sum of its entries in this list, 0 without an entry
 abbrev pub of_variable : List (ℕ × Number) → ℕ → Number
 of_variable entries v = sum_by_ℚ (λ e. if e.0 == v then e.1 else whole (pos 0)) entries
 
--- the coefficient of variable v in a row of the first dictionary: -1 for variable 0 if phase 1 is
--- needed, 1 for the row's slack
+-- the coefficient of a variable in a row of the first dictionary: for variable 0, -1 if phase 1 is
+-- `needed`, else 0; for `slack`, the row's own slack variable, 1; for another the row's coefficient
 abbrev pub first_entry : Bool → ℕ → StandardRow → ℕ → Number
 first_entry needed slack row zero = if needed then neg_ℚ (whole (pos 1)) else whole (pos 0)
 first_entry needed slack row (suc v) = if suc v == slack then whole (pos 1) else of_variable row.entries (suc v)
 
--- the numbers of a row of the first dictionary, by column
+-- the number of a row of the first dictionary in a column: the right side in column 0, the
+-- coefficient of variable v in column v + 1
 abbrev pub first_row : Bool → ℕ → StandardRow → ℕ → Number
 first_row needed slack row zero = row.right
 first_row needed slack row (suc v) = first_entry needed slack row v
 
--- the objective row of the first dictionary, by column; the list has the coefficients of the
--- variables from 1
+-- the objective row of the first dictionary by column: the negated constant, 0 for variable 0, then
+-- the objective's coefficients of the variables from number 1
 abbrev pub first_objective : Standard → ℕ → Number
 first_objective s zero = neg_ℚ s.constant
 first_objective s (suc zero) = whole (pos 0)
 first_objective s (suc (suc v)) = value_of_column s.objective v
 
--- the default for a place past the end: a row without entries
+-- a row without entries and with the right side 0, the default past the last row
 abbrev pub no_row : StandardRow
 no_row = record { right = whole (pos 0); entries = []; origin = of_bound 0 }
 
@@ -85,19 +87,21 @@ first_dictionary s =
 
 -- ---- which pivots are legal
 
--- variable 0 is basic
+-- the dictionary is in phase 1: variable 0 is basic
 abbrev pub InPhaseOne : Dictionary → Type 0
 InPhaseOne d = Contains d.basic 0
 
--- the opening pivot is required: some constant is below 0
+-- the opening pivot of phase 1, in which variable 0 enters, is required: the constant of some row
+-- is below 0
 abbrev pub OpeningIsRequired : Dictionary → Type 0
 OpeningIsRequired d = (k : ℕ) × (k < length d.basic) × (constant_at d k <ℚ whole (pos 0))
 
--- the priced row: that of variable 0 while it is basic, else the objective
+-- row k is the priced row, whose coefficients tell which variables improve: that of variable 0
+-- while it is basic, else the objective
 abbrev pub IsPriced : Dictionary → ℕ → Type 0
 IsPriced d k = (slice_get d.basic k ≡ Some 0) ⊎ (¬ (InPhaseOne d) × (k ≡ length d.basic))
 
--- A variable improves: it is neither basic nor variable 0, and its coefficient in the priced row is
+-- Variable v improves: it is neither basic nor variable 0, and its coefficient in the priced row is
 -- above 0.
 pub record Improves (d : Dictionary) (v : ℕ) : Type 0 where
   pub other : v ≢ 0
@@ -105,32 +109,35 @@ pub record Improves (d : Dictionary) (v : ℕ) : Type 0 where
   pub not_basic : ¬ (Contains d.basic v)
   pub above : (k : ℕ) → IsPriced d k → whole (pos 0) <ℚ entry_at d k v
 
--- a row limits a variable: its coefficient there is above 0
+-- row k limits the rise of variable q: the coefficient of q in the row is above 0
 abbrev pub Limits : Dictionary → ℕ → ℕ → Type 0
 Limits d q k = (k < length d.basic) × (whole (pos 0) <ℚ entry_at d k q)
 
--- how far a variable may rise by a row
+-- how far row k lets variable q rise: the row's constant over its coefficient of q
 abbrev pub ratio_at : Dictionary → ℕ → ℕ → Number
 ratio_at d q k = constant_at d k /ℚ entry_at d k q
 
--- A row ties: it limits the variable, and no row has a smaller ratio.
+-- Row k ties in the ratio test of variable q: it limits q, and no row that limits q has a smaller
+-- ratio.
 pub record Ties (d : Dictionary) (q k : ℕ) : Type 0 where
   pub limits : Limits d q k
   pub least : (i : ℕ) → Limits d q i → ratio_at d q k ≤ℚ ratio_at d q i
 
--- a row has the least constant
+-- no row has a smaller constant than row k
 abbrev pub IsLeast : Dictionary → ℕ → Type 0
 IsLeast d k = (k < length d.basic) × ((i : ℕ) → i < length d.basic → constant_at d k ≤ℚ constant_at d i)
 
--- The opening pivot: variable 0 enters, the variable of a row with the least constant leaves.
+-- The opening pivot, at a dictionary with a constant below 0: variable 0 enters, and the variable
+-- of row k leaves, whose constant is the least.
 pub record IsOpening (d : Dictionary) (p : Pivot) (k : ℕ) : Type 0 where
   pub required : OpeningIsRequired d
   pub enters : p.enter ≡ 0
   pub leaves : slice_get d.basic k ≡ Some p.leave
   pub least : IsLeast d k
 
--- Any pivot after the opening: an improving variable enters, and the variable of a tied row leaves,
--- which is variable 0 if its row ties.
+-- A pivot at a dictionary without a constant below 0: an improving variable enters, and the
+-- variable of row k leaves, which ties in the ratio test. If the row of variable 0 ties, variable 0
+-- leaves.
 pub record IsStep (d : Dictionary) (p : Pivot) (k : ℕ) : Type 0 where
   pub not_required : ¬ (OpeningIsRequired d)
   pub improves : Improves d p.enter
@@ -142,22 +149,26 @@ pub record IsStep (d : Dictionary) (p : Pivot) (k : ℕ) : Type 0 where
 abbrev pub IsLegal : Dictionary → Pivot → ℕ → Type 0
 IsLegal d p k = IsOpening d p k ⊎ IsStep d p k
 
--- the least of the variables that tie leaves; none if no row limits
+-- the variable that leaves when q enters: the least basic variable of the rows that tie, or None if
+-- no row limits q
 abbrev pub IsLeaving : Dictionary → ℕ → Option ℕ → Type 0
 IsLeaving d q None = (k : ℕ) → ¬ (Limits d q k)
 IsLeaving d q (Some v) = ((k : ℕ) × (slice_get d.basic k ≡ Some v) × Ties d q k) × ((i : ℕ) → Ties d q i → v ≤ basic_at d i)
 
 -- ---- the exchange
 
--- a number of row k over the row's coefficient of the entering variable
+-- the number of row k in column c, divided by the row's coefficient of the entering variable q
 abbrev pub divided_entry : Dictionary → ℕ → ℕ → ℕ → Number
 divided_entry d q k c = d.numbers k c /ℚ entry_at d k q
 
--- the numbers after an exchange: the row k is divided, and every other loses a multiple of it
+-- the number of row i in column c after q has become basic in row k: row k is divided by its
+-- coefficient of q, and from each other row the multiple of it is subtracted that makes the
+-- coefficient of q zero
 abbrev pub exchanged_numbers : Dictionary → ℕ → ℕ → ℕ → ℕ → Number
 exchanged_numbers d q k i c = if i == k then divided_entry d q k c else d.numbers i c -ℚ entry_at d i q *ℚ divided_entry d q k c
 
--- the dictionary in which q has become basic in row k; variable 0 is dropped when it leaves
+-- the dictionary after variable q has become basic in row k; if variable 0 leaves, all coefficients
+-- of variable 0 become 0
 abbrev pub exchanged : Dictionary → ℕ → ℕ → Dictionary
 exchanged d q k =
     record {
@@ -168,9 +179,10 @@ exchanged d q k =
 
 -- ---- dictionaries of a program
 
--- The invariant of each dictionary of a program: every basic variable occurs in its own row alone,
--- with coefficient 1. If the opening pivot is required, variable 0 has coefficient -1 in each row.
--- While variable 0 is basic, it is above 0.
+-- The invariant of each dictionary of a program: the basic variables are distinct variables of the
+-- dictionary, and each occurs in its own row alone, with coefficient 1. If the opening pivot is
+-- required, variable 0 has coefficient -1 in each row. While variable 0 is basic, its constant is
+-- above 0.
 pub record IsProper (d : Dictionary) : Type 0 where
   pub distinct : (i j v : ℕ) → slice_get d.basic i ≡ Some v → slice_get d.basic j ≡ Some v → i ≡ j
   pub there : (k v : ℕ) → slice_get d.basic k ≡ Some v → v ≤ d.variables
@@ -179,7 +191,7 @@ pub record IsProper (d : Dictionary) : Type 0 where
   pub opening : OpeningIsRequired d → (k : ℕ) → k < length d.basic → entry_at d k 0 ≡ neg_ℚ (whole (pos 1))
   pub above : (k : ℕ) → slice_get d.basic k ≡ Some 0 → whole (pos 0) <ℚ constant_at d k
 
--- variable 0 has a part in a dictionary: it is basic, or is still to enter
+-- variable 0 is in use: it is basic, or the opening pivot, in which it enters, is required
 abbrev pub HasZero : Dictionary → Type 0
 HasZero d = InPhaseOne d ⊎ OpeningIsRequired d
 

@@ -20,16 +20,17 @@ abbrev pub KeepsUpper : Option Number → Number → Type 0
 KeepsUpper None x = Unit {0}
 KeepsUpper (Some bound) x = x ≤ℚ bound
 
--- the bound of a column as a number, if there is one
+-- the number that a bound means; None without a bound
 abbrev pub bound_value : {F : Type 0} → (F → Number) → Option F → Option Number
 bound_value value None = None
 bound_value value (Some bound) = Some (value bound)
 
--- a value of a column keeps its bounds
+-- the value x of a column is within the column's bounds
 abbrev pub KeepsBounds : {F : Type 0} → (F → Number) → Column F → Number → Type 0
 KeepsBounds value column x = KeepsLower (bound_value value column.lower) x × KeepsUpper (bound_value value column.upper) x
 
--- a sum compares with a right side as the sense says
+-- a row's sum and its right side satisfy the sense of the row; in a nonbinding row any two numbers
+-- do
 abbrev pub KeepsSense : Sense → Number → Number → Type 0
 KeepsSense sense.E sum right = sum ≡ right
 KeepsSense sense.L sum right = sum ≤ℚ right

@@ -1,4 +1,4 @@
--- The rule of the largest coefficient, which turns to Bland's rule after pivots without gain
+-- The rule of the largest coefficient, which turns to Bland's rule after a run of degenerate pivots
 -- (Chvatal, Linear Programming, chapters 2 and 3).
 use Rattle.std.specs.Prelude.{◌≡◌, ℕ, ◌+◌, ◌≤◌, ◌⊎◌, pos, List, ◌++◌, length}
 use Rattle.gq_number.specs.Number.{Number, whole}
@@ -13,22 +13,24 @@ use Rattle.lp_core.specs.Ends.{IsPhase}
 use Rattle.lp_core.specs.Answers.{IsAnswerByChoice}
 use Rattle.lp_core.specs.Choices.{leaving_row, reached, AllAlong}
 
--- A variable improves with the greatest coefficient, and is the least of those that have it.
+-- Variable q improves, no improving variable has a greater coefficient in the priced row, and q is
+-- the least of those with this coefficient.
 pub record HasGreatest (d : Dictionary) (q : ℕ) : Type 0 where
   pub improves : Improves d q
   pub greatest : (v k : ℕ) → Improves d v → IsPriced d k → entry_at d k v ≤ℚ entry_at d k q
   pub least : (v k : ℕ) → Improves d v → IsPriced d k → entry_at d k v ≡ entry_at d k q → q ≤ v
 
--- a pivot of a phase
+-- the dictionary d is of this phase, whatever pivot is made at it
 abbrev pub IsOfPhase : ℕ → Dictionary → Pivot → Type 0
 IsOfPhase phase d p = IsPhase d phase
 
--- a pivot of a phase that gains nothing: the constant of the variable that leaves is 0
+-- p is a degenerate pivot in this phase: the constant of the leaving variable's row is 0
 abbrev pub IsDegeneratePivot : ℕ → Dictionary → Pivot → Type 0
 IsDegeneratePivot phase d p = IsPhase d phase × (constant_at d (leaving_row d p) ≡ whole (pos 0))
 
--- The search has turned to Bland's rule in the phase of this dictionary: somewhere in the phase as
--- many successive pivots gained nothing as there are variables, variable 0 included.
+-- The search has turned to Bland's rule in the phase of the dictionary d. Among the pivots so far,
+-- which start at `first`, those in `still` are successive degenerate pivots of this phase, as many
+-- as there are variables, variable 0 included. All that follow them are of this phase too.
 pub record HasTurned (first : Dictionary) (pivots : List Pivot) (d : Dictionary) : Type 0 where
   pub phase : ℕ
   pub before : List Pivot
@@ -40,8 +42,8 @@ pub record HasTurned (first : Dictionary) (pivots : List Pivot) (d : Dictionary)
   pub same_phase : AllAlong (IsOfPhase phase) (reached first (before ++ still)) following
   pub now : IsPhase d phase
 
--- the variable that enters next: the one with the greatest coefficient before the turn, Bland's
--- after it
+-- variable q enters next: until the search has turned to Bland's rule, q has the greatest
+-- coefficient; from then on, it is the least variable that improves
 abbrev pub IsNext : Dictionary → List Pivot → Dictionary → ℕ → Type 0
 IsNext first pivots d q = (¬ (HasTurned first pivots d) × HasGreatest d q) ⊎ (HasTurned first pivots d × IsChosen Bland d q)
 

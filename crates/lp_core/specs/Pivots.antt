@@ -12,34 +12,37 @@ use Rattle.lp_core.specs.Steps.{AllFit, ratio_steps, exchange_steps}
 
 -- ---- what is read from a dictionary
 
--- the row of a basic variable, none for another
+-- the row in which variable v is basic; None if it is not basic
 abbrev pub row_of_basic : Dictionary → ℕ → Option ℕ
 row_of_basic d v = position (λ b. b == v) d.basic
 
--- the value of a variable where those that are not basic are 0: its row's constant
+-- the value of a variable if all that are not basic are 0, by the row in which it is basic: the
+-- row's constant, or 0 without a row
 abbrev pub value_by_row : Dictionary → Option ℕ → Number
 value_by_row d None = whole (pos 0)
 value_by_row d (Some k) = constant_at d k
 
--- the change of a variable where q rises by 1: its row's number of q, negated
+-- the change of variable v if q, which is not basic, rises by 1, by the row in which v is basic:
+-- the negated coefficient of q there; without a row 1 for q itself, else 0
 abbrev pub change_by_row : Dictionary → ℕ → ℕ → Option ℕ → Number
 change_by_row d q v None = if q == v then whole (pos 1) else whole (pos 0)
 change_by_row d q v (Some k) = neg_ℚ (entry_at d k q)
 
--- the coefficient of a variable in the priced row, 0 for a basic one
+-- the coefficient of variable v in the priced row k, or 0 if v is basic in some row
 abbrev pub cost_by_row : Dictionary → ℕ → ℕ → Option ℕ → Number
 cost_by_row d k v None = entry_at d k v
 cost_by_row d k v (Some row) = whole (pos 0)
 
--- the priced row: that of variable 0 while it is basic, else the objective
+-- the number of the priced row: that of variable 0 while it is basic, else the objective
 abbrev pub priced_row : Dictionary → ℕ
 priced_row d = unwrap_or (row_of_basic d 0) (length d.basic)
 
--- all variables, from number 0
+-- the numbers of all variables, from 0
 abbrev pub all_variables : Dictionary → List ℕ
 all_variables d = range_with_len 0 (d.variables + 1)
 
--- values and coefficients of all variables, with no ray
+-- what is read from a final dictionary without a ray: the value of each variable, and its
+-- coefficient in the priced row
 abbrev pub last_of : Dictionary → Last
 last_of d =
     record {
@@ -48,34 +51,36 @@ last_of d =
       changes = [];
     }
 
--- values and coefficients of all variables, with the ray along which q rises
+-- what is read from a final dictionary with a ray: also the change of each variable as q rises by 1
 abbrev pub last_along : Dictionary → ℕ → Last
 last_along d q = record (last_of d) { changes = map (λ v. change_by_row d q v (row_of_basic d v)) (all_variables d) }
 
 -- ---- the rules
 
--- a variable that the rule may choose: it improves, and under Bland no lesser one does
+-- q is a variable that the rule may choose to enter: it improves, and under Bland no variable with
+-- a lesser number does
 abbrev pub IsChosen : Rule → Dictionary → ℕ → Type 0
 IsChosen Bland d q = Improves d q × ((v : ℕ) → Improves d v → q ≤ v)
 IsChosen Legal d q = Improves d q
 
--- nothing remains to choose
+-- the opening pivot is not required, and no variable improves
 abbrev pub NothingImproves : Dictionary → Type 0
 NothingImproves d = ¬ (OpeningIsRequired d) × ((v : ℕ) → ¬ (Improves d v))
 
--- the ratio steps of a pivot fit; the opening pivot has none
+-- all steps of the ratio test of p, the n-th pivot, fit under the limit; an opening pivot has none
 abbrev pub TestFits : ℕ → ℕ → Dictionary → Pivot → Type 0
 TestFits limit n d p = ¬ (OpeningIsRequired d) → AllFit (ratio_steps limit n d p.enter)
 
--- The pivot chosen at a dictionary: a chosen variable enters, and of the tied variables the least
--- leaves, which is variable 0 if its row ties. At the opening the least variable leaves among those
--- with the least constant.
+-- A chosen variable enters in the pivot p, and of the tied variables the least leaves, which is
+-- variable 0 if its row ties. At the opening the least variable leaves among those with the least
+-- constant.
 pub record IsTaken (Chosen : ℕ → Type 0) (d : Dictionary) (p : Pivot) : Type 0 where
   pub enters : ¬ (OpeningIsRequired d) → Chosen p.enter
   pub leaves : (i : ℕ) → ¬ (OpeningIsRequired d) → Ties d p.enter i → p.leave ≤ basic_at d i
   pub opens : (i : ℕ) → OpeningIsRequired d → IsLeast d i → p.leave ≤ basic_at d i
 
--- a legal pivot that the choice allows; k is the row of the variable that leaves
+-- p is a legal pivot in which a chosen variable enters and the least tied variable leaves; k is the
+-- row of the variable that leaves
 abbrev pub IsAllowedBy : (ℕ → Type 0) → Dictionary → Pivot → ℕ → Type 0
 IsAllowedBy Chosen d p k = IsLegal d p k × IsTaken Chosen d p
 
@@ -86,31 +91,33 @@ IsAllowed Legal d p k = IsLegal d p k
 
 -- ---- ways from one dictionary to another, over numbers without limit; and whether their steps fit
 
--- The pivots that a rule allows. A rule depends on the dictionary, the pivot and the row of the
--- leaving variable, but not on the pivots so far.
+-- The pivots that a rule allows. This depends on the dictionary, the pivot and the row of the
+-- leaving variable, but not on `done`, the pivots so far.
 abbrev pub ByRule : Rule → List Pivot → Dictionary → Pivot → ℕ → Type 0
 ByRule rule done d p k = IsAllowed rule d p k
 
--- the pivots that a choice of the entering variable allows; the choice depends on the first
--- dictionary, the pivots so far, the dictionary they lead to, and the variable; of the tied
--- variables the least leaves
+-- the pivots that a choice of the entering variable allows; `choice` depends on the first
+-- dictionary, the pivots `done` so far, the dictionary d that they lead to, and the variable; of
+-- the tied variables the least leaves
 abbrev pub ByChoice : (Dictionary → List Pivot → Dictionary → ℕ → Type 0) → Dictionary → List Pivot → Dictionary → Pivot → ℕ → Type 0
 ByChoice choice first done d p k = IsAllowedBy (choice first done d) d p k
 
 module _ (Allowed : List Pivot → Dictionary → Pivot → ℕ → Type 0) where
-  -- pivots lead from one dictionary, the result of the pivots `done`, to another: each is allowed
-  -- at the dictionary to which the pivots before it lead
+  -- the pivots lead from d, to which the pivots `done` led, to the dictionary `last`: each is
+  -- allowed at the dictionary to which the pivots before it lead
   abbrev pub Leads : List Pivot → Dictionary → List Pivot → Dictionary → Type 0
   Leads done d [] last = last ≡ d
   Leads done d (p ∷ pivots) last = (k : ℕ) × Allowed done d p k × Leads (done ++ p ∷ []) (exchanged d p.enter k) pivots last
 
-  -- all steps of these pivots fit under a limit; the first pivot is the n-th
+  -- all steps of the pivots, which lead from d to `last` by `way`, fit under the limit; the first
+  -- of them is the n-th pivot
   abbrev pub PivotsFit : ℕ → ℕ → (done : List Pivot) (d : Dictionary) (pivots : List Pivot) (last : Dictionary) → Leads done d pivots last → Type 0
   PivotsFit limit n done d [] last way = Unit {0}
   PivotsFit limit n done d (p ∷ pivots) last way =
       TestFits limit n d p × AllFit (exchange_steps limit n d p.enter way.0)
       × PivotsFit limit (n + 1) (done ++ p ∷ []) (exchanged d p.enter way.0) pivots last way.2
 
-  -- pivots lead from one dictionary to another, and all their steps fit
+  -- the pivots lead from d to `last`, and all their steps fit under the limit; the first of them is
+  -- the n-th pivot
   abbrev pub LeadsWithin : ℕ → ℕ → List Pivot → Dictionary → List Pivot → Dictionary → Type 0
   LeadsWithin limit n done d pivots last = (way : Leads done d pivots last) × PivotsFit limit n done d pivots last way

@@ -16,36 +16,40 @@ use Rattle.lp_core.specs.Sums.{value_of_column, row_sum}
 use Rattle.lp_core.specs.Feasible.{Feasible}
 use Rattle.lp_core.specs.DualBound.{reduced_cost, objective_costs, no_costs, dual_bound, low}
 
--- the lower bound exceeds the upper bound
+-- both bounds exist, and the lower one exceeds the upper one
 abbrev pub Crosses : {F : Type 0} → (F → Number) → Option F → Option F → Type 0
 Crosses value (Some lower) (Some upper) = value upper <ℚ value lower
 Crosses value lower upper = ⊥
 
--- the first of these columns whose bounds cross, if any: the bounds of no column before it cross
+-- Some j: the bounds of column j cross, and those of no column before it. None: the bounds of no
+-- column cross.
 abbrev pub FirstCrossed : {F : Type 0} → (F → Number) → List (Column F) → Option ℕ → Type 0
 FirstCrossed {F} value columns (Some j) =
     ((column : Column F) × (slice_get columns j ≡ Some column) × Crosses value column.lower column.upper)
     × AllWithin (λ (column : Column F). ¬ (Crosses value column.lower column.upper)) columns 0 j
 FirstCrossed {F} value columns None = All (λ (column : Column F). ¬ (Crosses value column.lower column.upper)) columns
 
--- along a direction, the sum of a row still compares with its right side as its sense says
+-- along a direction in which the sum of a row changes by `change`, a sum that compares with the
+-- right side as the sense says still does so
 abbrev pub KeepsSenseAlong : Sense → Number → Type 0
 KeepsSenseAlong sense.E change = change ≡ whole (pos 0)
 KeepsSenseAlong sense.L change = change ≤ℚ whole (pos 0)
 KeepsSenseAlong sense.G change = whole (pos 0) ≤ℚ change
 KeepsSenseAlong sense.N change = Unit {0}
 
--- along a direction, a column with a lower bound does not fall
+-- along a direction in which a column changes by `change`, it does not fall if it has a lower bound
 abbrev pub KeepsLowerAlong : {F : Type 0} → Option F → Number → Type 0
 KeepsLowerAlong None change = Unit {0}
 KeepsLowerAlong (Some bound) change = whole (pos 0) ≤ℚ change
 
--- along a direction, a column with an upper bound does not rise
+-- along a direction in which a column changes by `change`, it does not rise if it has an upper
+-- bound
 abbrev pub KeepsUpperAlong : {F : Type 0} → Option F → Number → Type 0
 KeepsUpperAlong None change = Unit {0}
 KeepsUpperAlong (Some bound) change = change ≤ℚ whole (pos 0)
 
--- the objective becomes better along a direction
+-- the objective becomes better along a direction in which it changes by `change`: it rises when
+-- maximizing (true), else it falls
 abbrev pub ImprovesObjective : Bool → Number → Type 0
 ImprovesObjective true change = whole (pos 0) <ℚ change
 ImprovesObjective false change = change <ℚ whole (pos 0)
@@ -55,7 +59,8 @@ module _ {F : Type 0} (value : F → Number) (lp : Lp F) where
   abbrev pub row_sums : List Number → List Number
   row_sums x = map (λ (row : Row F). row_sum value row.entries x) lp.rows
 
-  -- Optimal: a feasible point whose objective is the bound that the duals give.
+  -- Optimal: a feasible point whose objective is the bound that the duals give. The row levels are
+  -- the rows' sums at the point, and the reduced costs are those of the duals.
   pub record ProvesOptimal (levels row_levels duals reduced : List Number) : Type 0 where
     pub feasible : Feasible value lp levels
     pub rows : row_levels ≡ row_sums levels
@@ -63,13 +68,14 @@ module _ {F : Type 0} (value : F → Number) (lp : Lp F) where
     pub reduced_costs : reduced ≡ map (λ j. reduced_cost value lp (objective_costs lp) duals j) (range_with_len 0 (length lp.columns))
     pub bound : dual_bound value lp duals ≡ Some (value_of_column levels lp.objective)
 
-  -- Infeasible by a Farkas combination of rows and bounds: it is 0 at each point, yet its lower
-  -- bound is above 0.
+  -- Infeasible by a Farkas combination of rows and bounds, with a factor for each row: the lower
+  -- bound that these factors give of 0, the objective without costs, is above 0.
   pub record ProvesInfeasible (duals : List Number) : Type 0 where
     pub sized : length duals ≡ length lp.rows
     pub above : (bound : Number) × (low value lp no_costs duals ≡ Some bound) × (whole (pos 0) <ℚ bound)
 
-  -- Infeasible by a column: it is the first whose lower bound exceeds its upper bound.
+  -- Infeasible by column j: it is the first whose lower bound exceeds its upper bound. All duals
+  -- are 0.
   pub record ProvesCrossed (j : ℕ) (duals : List Number) : Type 0 where
     pub first : FirstCrossed value lp.columns (Some j)
     pub duals_zero : duals ≡ replicate (length lp.rows) (whole (pos 0))
@@ -82,14 +88,14 @@ module _ {F : Type 0} (value : F → Number) (lp : Lp F) where
     pub rows : All (λ (row : Row F). KeepsSenseAlong row.sense (row_sum value row.entries ray)) lp.rows
     pub better : ImprovesObjective lp.maximize (value_of_column ray lp.objective)
 
-  -- Unbounded: a feasible point and a ray.
+  -- Unbounded: a feasible point with its rows' sums, and a ray.
   pub record ProvesUnbounded (levels row_levels ray : List Number) : Type 0 where
     pub feasible : Feasible value lp levels
     pub rows : row_levels ≡ row_sums levels
     pub along : IsRay ray
 
-  -- An end is proved from the program's rows and bounds. An interrupted end has only a feasible
-  -- point to prove.
+  -- The lists of an end prove it from the program's rows and bounds. For an Interrupted end this
+  -- means only that its point is feasible, and no Refused end is proved.
   abbrev pub IsProved : End F → Type 0
   IsProved (Optimal levels row_levels duals reduced) = ProvesOptimal (map value levels) (map value row_levels) (map value duals) (map value reduced)
   IsProved (Infeasible duals None) = ProvesInfeasible (map value duals)
@@ -98,6 +104,6 @@ module _ {F : Type 0} (value : F → Number) (lp : Lp F) where
   IsProved (Interrupted phase levels row_levels) = Feasible value lp (map value levels)
   IsProved (Refused step) = ⊥
 
--- the point plus t times the ray
+-- the point `levels` plus t times the ray
 abbrev pub further : List Number → Number → List Number → List Number
 further levels t ray = added levels (scaled t ray)

@@ -12,25 +12,25 @@ use Rattle.lp_core.specs.declared.program.Row.{Row}
 use Rattle.lp_core.specs.declared.program.Lp.{Lp}
 use Rattle.lp_core.specs.Sums.{value_of_column}
 use Rattle.lp_core.specs.Feasible.{bound_value}
--- passed on: how many rows of the standard form a row, a column and rows have
+-- passed on: how many rows of the standard form a row, a column and a list of rows have
 pub use Rattle.lp_core.specs.WellFormed.{rows_of_sense, rows_of_bounds, count_of_rows}
 
--- How variables that are at least 0 express a column: its lower bound plus one, its upper bound
--- less one, or the difference of two.
+-- How variables that are at least 0 express a column: as its lower bound plus a variable, as its
+-- upper bound less a variable, or as the difference of two variables.
 pub data Shift : Type 0 where
   from_lower : Number → Shift
   from_upper : Number → Shift
   free : Shift
 
--- the origin of a row of the standard form: a row of the program, its sign kept or changed, or a
--- column with two bounds
+-- the origin of a row of the standard form: a row of the program, as it is or negated, or a column
+-- with two bounds; each by its number from 0
 pub data RowOrigin : Type 0 where
   of_row : ℕ → RowOrigin
   of_negated : ℕ → RowOrigin
   of_bound : ℕ → RowOrigin
 
 -- A row of the standard form: the sum of the coefficients, each times its variable, is at most the
--- right side.
+-- right side. An entry is a variable's number and its coefficient.
 pub record StandardRow : Type 0 where
   pub right : Number
   pub entries : List (ℕ × Number)
@@ -50,76 +50,81 @@ shift_of (Some lower) upper = from_lower lower
 shift_of None (Some upper) = from_upper upper
 shift_of None None = free
 
--- how many variables a shift has
+-- how many variables express a column with this shift
 abbrev pub width : Shift → ℕ
 width (from_lower b) = 1
 width (from_upper b) = 1
 width free = 2
 
--- the bound that a shift counts from, 0 where there is none
+-- the bound from which a column with this shift is counted, or 0 if the column is free
 abbrev pub base : Shift → Number
 base (from_lower b) = b
 base (from_upper b) = b
 base free = whole (pos 0)
 
--- shifts with the numbers of their first variables, from n on
+-- each column's shift with the number of the column's first variable; that of the first column is n
 abbrev pub numbered : ℕ → List Shift → List (ℕ × Shift)
 numbered n [] = []
 numbered n (s ∷ shifts) = (n, s) ∷ numbered (n + width s) shifts
 
--- a coefficient of a column as coefficients of its variables
+-- the coefficient a of a column as coefficients of the variables that express it, of which v is the
+-- first
 abbrev pub spread : ℕ → Shift → Number → List (ℕ × Number)
 spread v (from_lower b) a = (v, a) ∷ []
 spread v (from_upper b) a = (v, neg_ℚ a) ∷ []
 spread v free a = (v, a) ∷ (v + 1, neg_ℚ a) ∷ []
 
--- the value of a column, by the values of all variables from number 0
+-- the value of a column with this shift whose first variable is v, from the values y of all
+-- variables by number
 abbrev pub shifted_back : ℕ × Shift → List Number → Number
 shifted_back (v, from_lower b) y = b +ℚ value_of_column y v
 shifted_back (v, from_upper b) y = b -ℚ value_of_column y v
 shifted_back (v, free) y = value_of_column y v -ℚ value_of_column y (v + 1)
 
--- the point that values of all variables express
+-- the value of each column, from the values y of all variables by number
 abbrev pub point_of : Standard → List Number → List Number
 point_of s y = map (λ column. shifted_back column y) s.columns
 
--- the row with its sign changed
+-- the standard row r of the program's row i, times -1
 abbrev pub negated_row : ℕ → StandardRow → StandardRow
 negated_row i r = record { right = neg_ℚ r.right; entries = map (λ e. (e.0, neg_ℚ e.1)) r.entries; origin = of_negated i }
 
--- a row of the program as rows of the standard form, by its sense
+-- the rows of the standard form for row i of the program, by its sense: r for an upper limit, the
+-- negated r for a lower one, both for an equation, none for a nonbinding row
 abbrev pub rows_by_sense : Sense → ℕ → StandardRow → List StandardRow
 rows_by_sense sense.E i r = r ∷ negated_row i r ∷ []
 rows_by_sense sense.L i r = r ∷ []
 rows_by_sense sense.G i r = negated_row i r ∷ []
 rows_by_sense sense.N i r = []
 
--- the row of a column with two bounds: its variable is at most their difference
+-- the row of column j if it has two bounds: its first variable v is at most their difference
 abbrev pub bound_rows : ℕ → ℕ → Option Number → Option Number → List StandardRow
 bound_rows j v (Some lower) (Some upper) = record { right = upper -ℚ lower; entries = (v, whole (pos 1)) ∷ []; origin = of_bound j } ∷ []
 bound_rows j v lower upper = []
 
--- a number kept where the objective is to be greatest, and negated where it is to be least
+-- a number, negated if the objective is to be minimized (false)
 abbrev pub directed : Bool → Number → Number
 directed true x = x
 directed false x = neg_ℚ x
 
--- the shift at a place; a shift without effect past the last column
+-- the first variable and the shift of column j; past the last column a free shift of variable 0
 abbrev pub column_at : List (ℕ × Shift) → ℕ → ℕ × Shift
 column_at columns j = slice_index_or columns j (0, free)
 
--- the coefficients of the objective: those of its column's variables, 0 elsewhere
+-- the objective's coefficients of the variables from 1 to `count`, each the sum of the variable's
+-- entries
 abbrev pub objective_of : ℕ → List (ℕ × Number) → List Number
 objective_of count entries =
     map (λ v. sum_by_ℚ (λ e. if e.0 == v then e.1 else whole (pos 0)) entries) (range_with_len 1 count)
 
 module _ {F : Type 0} (value : F → Number) (lp : Lp F) where
-  -- the columns with the numbers of their first variables and their shifts
+  -- for each column the number of its first variable, and its shift
   abbrev pub columns_of : List (ℕ × Shift)
   columns_of = numbered 1 (map (λ (column : Column F). shift_of (bound_value value column.lower) (bound_value value column.upper)) lp.columns)
 
-  -- a program row as a row of the standard form, its sign kept: variables express the columns, and
-  -- the right side is less the bounds' share
+  -- row i of the program as a row of the standard form, not negated: the variables express the
+  -- columns, and from the right side each coefficient times the bound that its column is counted
+  -- from is subtracted
   abbrev pub shifted_row : ℕ → Row F → StandardRow
   shifted_row i r =
       record {
@@ -135,7 +140,7 @@ module _ {F : Type 0} (value : F → Number) (lp : Lp F) where
       flat_map (λ (p : ℕ × Row F). rows_by_sense p.1.sense p.0 (shifted_row p.0 p.1)) (enumerate_from 0 lp.rows)
       ++ flat_map (λ (p : ℕ × Column F). bound_rows p.0 (column_at columns_of p.0).0 (bound_value value p.1.lower) (bound_value value p.1.upper)) (enumerate_from 0 lp.columns)
 
-  -- how many variables there are, without slacks
+  -- how many variables the standard form has, without slacks
   abbrev pub variables_of : ℕ
   variables_of = sum_by (λ (p : ℕ × Shift). width p.1) columns_of
 
@@ -165,36 +170,39 @@ pub record Last : Type 0 where
 abbrev pub multiplier : ℕ → List Number → ℕ → Number
 multiplier variables costs r = neg_ℚ (value_of_column costs (variables + 1 + r))
 
--- the dual of a row from the multipliers of its rows in the standard form, of which the first has
--- place r
+-- the dual of a program's row by its sense, from the multipliers p of the standard form's rows; r
+-- is the first of these that belongs to the row
 abbrev pub dual_by_sense : Sense → (ℕ → Number) → ℕ → Number
 dual_by_sense sense.E p r = p r -ℚ p (r + 1)
 dual_by_sense sense.L p r = p r
 dual_by_sense sense.G p r = neg_ℚ (p r)
 dual_by_sense sense.N p r = whole (pos 0)
 
--- the duals of rows of which the first has its first row at place r
+-- the duals of these rows, from the multipliers p of the standard form's rows; r is the first of
+-- these that belongs to the first row
 abbrev pub duals_from : {F : Type 0} → (ℕ → Number) → ℕ → List (Row F) → List Number
 duals_from p r [] = []
 duals_from p r (row ∷ rows) = dual_by_sense row.sense p r ∷ duals_from p (r + rows_of_sense row.sense) rows
 
--- the reduced cost of a column; v is its first variable, and r the place of its row in the standard
--- form, if any
+-- the reduced cost of a column by its bounds, from the final coefficients `costs` of all variables
+-- and the multipliers p of the standard form's rows; v is the column's first variable, and r the
+-- row of the column if it has two bounds
 abbrev pub reduced_by_bounds : {B : Type 0} → List Number → (ℕ → Number) → ℕ → ℕ → Option B → Option B → Number
 reduced_by_bounds costs p v r (Some lower) (Some upper) = value_of_column costs v +ℚ p r
 reduced_by_bounds costs p v r (Some lower) None = value_of_column costs v
 reduced_by_bounds costs p v r None (Some upper) = neg_ℚ (value_of_column costs v)
 reduced_by_bounds costs p v r None None = whole (pos 0)
 
--- the reduced costs of columns, given the numbers of their first variables; r is the place of the
--- next column's row
+-- the reduced costs of these columns, each with the number of its first variable in `shifts`; r is
+-- the standard form's row of the first column that has one
 abbrev pub reduced_from : {F : Type 0} → List Number → (ℕ → Number) → ℕ → List (ℕ × Shift) → List (Column F) → List Number
 reduced_from costs p r [] columns = []
 reduced_from costs p r (s ∷ shifts) [] = []
 reduced_from costs p r (s ∷ shifts) (column ∷ columns) =
     reduced_by_bounds costs p s.0 r column.lower column.upper ∷ reduced_from costs p (r + rows_of_bounds column.lower column.upper) shifts columns
 
--- the change of a column along a ray
+-- the change of a column with this shift whose first variable is v, from the changes of all
+-- variables along a ray
 abbrev pub changed_back : ℕ × Shift → List Number → Number
 changed_back (v, from_lower b) changes = value_of_column changes v
 changed_back (v, from_upper b) changes = neg_ℚ (value_of_column changes v)
@@ -205,12 +213,12 @@ module _ {F : Type 0} (value : F → Number) (lp : Lp F) (last : Last) where
   abbrev pub levels_back : List Number
   levels_back = point_of (standard_form value lp) last.values
 
-  -- the dual of each row of an optimum
+  -- the dual of each row at an optimum
   abbrev pub duals_back : List Number
   duals_back = map (directed lp.maximize) (duals_from (multiplier (variables_of value lp) last.costs) 0 lp.rows)
 
-  -- the reduced cost of each column at an optimum; the rows for columns follow those of the
-  -- program's rows
+  -- the reduced cost of each column at an optimum; in the standard form the rows for columns follow
+  -- those of the program's rows
   abbrev pub reduced_back : List Number
   reduced_back =
       map (directed lp.maximize) (reduced_from last.costs (multiplier (variables_of value lp) last.costs) (count_of_rows lp.rows) (columns_of value lp) lp.columns)

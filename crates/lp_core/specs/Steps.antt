@@ -16,13 +16,13 @@ use Rattle.lp_core.specs.declared.program.Row.{Row}
 use Rattle.lp_core.specs.declared.program.Lp.{Lp}
 use Rattle.lp_core.specs.Sums.{value_of_column}
 use Rattle.lp_core.specs.Feasible.{bound_value}
--- passed on: how many rows of the standard form rows have
+-- passed on: how many rows of the standard form a list of rows has
 pub use Rattle.lp_core.specs.WellFormed.{count_of_rows}
 use Rattle.lp_core.specs.StandardForm.{Shift, from_lower, from_upper, free, base, column_at, columns_of, variables_of, rows_of_sense, rows_of_bounds, multiplier, Last, levels_back}
 use Rattle.lp_core.specs.Dictionary.{Dictionary, constant_at, entry_at, divided_entry}
 
--- An expected step, and whether it fits. A step with a factor 0 and a sum with 0 always fit, so a
--- list may contain or omit them.
+-- A step that a solver makes, by its name, and whether it fits. Steps that always fit, as a product
+-- or a sum with 0 does, may be in a list of steps or be omitted.
 abbrev pub ExpectedStep : Type 0
 ExpectedStep = StepName × Bool
 
@@ -30,29 +30,31 @@ ExpectedStep = StepName × Bool
 abbrev pub AllFit : List ExpectedStep → Type 0
 AllFit steps = All (λ (step : ExpectedStep). step.1 ≡ true) steps
 
--- The first of these steps that does not fit.
+-- `name` is the first of these steps that does not fit.
 pub record FirstStop (steps : List ExpectedStep) (name : StepName) : Type 0 where
   pub before : List ExpectedStep
   pub following : List ExpectedStep
   pub split : steps ≡ before ++ (name, false) ∷ following
   pub fit : AllFit before
 
--- whether the product of two numbers fits
+-- whether the product of two numbers fits under the limit
 abbrev pub product_fits : ℕ → Number → Number → Bool
 product_fits limit x y = fits limit (x *ℚ y)
 
--- whether the quotient of two numbers fits
+-- whether the quotient of two numbers fits under the limit
 abbrev pub quotient_fits : ℕ → Number → Number → Bool
 quotient_fits limit x y = fits limit (x /ℚ y)
 
--- whether the difference of two numbers fits, which is the sum with the second negated
+-- whether the difference of two numbers fits under the limit, that is, the sum of x and the negated
+-- y
 abbrev pub difference_fits : ℕ → Number → Number → Bool
 difference_fits limit x y = sum_fits limit x (neg_ℚ y)
 
 -- ---- the standard form: each bound is taken out of a right side, entry by entry
 
--- the steps on one entry of a row, by its column's shift: the product of coefficient and bound, and
--- the difference
+-- the steps that take the bound b, from which column j is counted, out of the right side of
+-- standard row r: the product of the coefficient a and b, then `right` less the product; none for a
+-- free column
 abbrev pub shifting : ℕ → ℕ → ℕ → Shift → Number → Number → List ExpectedStep
 shifting limit r j free a right = []
 shifting limit r j (from_lower b) a right =
@@ -60,7 +62,7 @@ shifting limit r j (from_lower b) a right =
 shifting limit r j (from_upper b) a right =
     (StandardStep r (j + 1) 0, product_fits limit a b) ∷ (StandardStep r (j + 1) 1, difference_fits limit right (a *ℚ b)) ∷ []
 
--- the steps on the entries of a row whose right side is `right` so far; r is the number of its
+-- the steps on these entries of a row whose right side is `right` so far; r is the number of its
 -- standard row, from 1
 abbrev pub row_steps : {F : Type 0} → (F → Number) → ℕ → List (ℕ × Shift) → ℕ → Number → List (ℕ × F) → List ExpectedStep
 row_steps value limit columns r right [] = []
@@ -68,52 +70,56 @@ row_steps value limit columns r right (e ∷ entries) =
     shifting limit r e.0 (column_at columns e.0).1 (value e.1) right
     ++ row_steps value limit columns r (right -ℚ value e.1 *ℚ base (column_at columns e.0).1) entries
 
--- the steps on rows; r is the number of the first row's standard row, and a nonbinding row has
--- no steps
+-- the steps on these rows; r is the number of the first row's standard row, from 1; a nonbinding
+-- row has no steps
 abbrev pub rows_steps : {F : Type 0} → (F → Number) → ℕ → List (ℕ × Shift) → ℕ → List (Row F) → List ExpectedStep
 rows_steps value limit columns r [] = []
 rows_steps value limit columns r (row ∷ rows) =
     (if rows_of_sense row.sense == 0 then [] else row_steps value limit columns r (value row.right) row.entries)
     ++ rows_steps value limit columns (r + rows_of_sense row.sense) rows
 
--- the step on a column with two bounds: their difference
+-- the step on column j if it has two bounds: their difference, for the standard row r
 abbrev pub bound_step : ℕ → ℕ → ℕ → Option Number → Option Number → List ExpectedStep
 bound_step limit r j (Some lower) (Some upper) = (StandardStep r (j + 1) 1, difference_fits limit upper lower) ∷ []
 bound_step limit r j lower upper = []
 
--- the steps on columns; r is the number of the next column's row, j the place of the first column
+-- the steps on these columns, one for each with two bounds; j is the number of the first column,
+-- from 0, and r that of the next standard row, from 1
 abbrev pub bounds_steps : {F : Type 0} → (F → Number) → ℕ → ℕ → ℕ → List (Column F) → List ExpectedStep
 bounds_steps value limit r j [] = []
 bounds_steps value limit r j (column ∷ columns) =
     bound_step limit r j (bound_value value column.lower) (bound_value value column.upper)
     ++ bounds_steps value limit (r + rows_of_bounds column.lower column.upper) (j + 1) columns
 
--- the steps of the standard form
+-- the steps that compute the standard form: those on rows, then those on columns with two bounds
 abbrev pub standard_steps : {F : Type 0} → (F → Number) → ℕ → Lp F → List ExpectedStep
 standard_steps value limit lp =
     rows_steps value limit (columns_of value lp) 1 lp.rows ++ bounds_steps value limit (1 + count_of_rows lp.rows) 0 lp.columns
 
 -- ---- a pivot: q enters in row k, both from 0; pivots and rows are numbered from 1
 
--- the ratio test: the quotient of each row that limits, in order
+-- the steps of the ratio test for the entering variable q: for each row that limits q, in order,
+-- its constant over its coefficient of q
 abbrev pub ratio_steps : ℕ → ℕ → Dictionary → ℕ → List ExpectedStep
 ratio_steps limit pivot d q =
     map (λ i. (Ratio pivot (i + 1), quotient_fits limit (constant_at d i) (entry_at d i q)))
     (filter (λ i. is_gt (number_cmp (entry_at d i q) (whole (pos 0)))) (range_with_len 0 (length d.basic)))
 
--- the row of the variable that leaves, divided: the constant, then the variables
+-- the steps on row k, whose variable leaves: each number, the constant first, is divided by the
+-- row's coefficient of q
 abbrev pub pivot_row_steps : ℕ → ℕ → Dictionary → ℕ → ℕ → List ExpectedStep
 pivot_row_steps limit pivot d q k =
     map (λ c. (Exchange pivot (k + 1) c 0, quotient_fits limit (d.numbers k c) (entry_at d k q))) (range_with_len 0 (d.variables + 2))
 
--- another row, or the objective: of each number the product and the difference
+-- the steps on row i, another row or the objective: for each number, the product of the row's
+-- coefficient of q and the divided number of row k, then the difference
 abbrev pub other_row_steps : ℕ → ℕ → Dictionary → ℕ → ℕ → ℕ → List ExpectedStep
 other_row_steps limit pivot d q k i =
     flat_map (λ c. (Exchange pivot (i + 1) c 0, product_fits limit (entry_at d i q) (divided_entry d q k c)) ∷ (Exchange pivot (i + 1) c 1, difference_fits limit (d.numbers i c) (entry_at d i q *ℚ divided_entry d q k c)) ∷ [])
     (range_with_len 0 (d.variables + 2))
 
--- the steps of an exchange: the row of the leaving variable, the other rows, and the objective at
--- the end
+-- the steps of an exchange: those on the row of the leaving variable, then those on each other row,
+-- with the objective last
 abbrev pub exchange_steps : ℕ → ℕ → Dictionary → ℕ → ℕ → List ExpectedStep
 exchange_steps limit pivot d q k =
     pivot_row_steps limit pivot d q k
@@ -121,29 +127,35 @@ exchange_steps limit pivot d q k =
 
 -- ---- the recovery; places count from 0
 
--- the step on the level of a column, by its shift
+-- the step that computes the value of column j, by its shift: the sum or difference of the bound b
+-- and variable v, or the difference of two variables; y has the values of variables
 abbrev pub level_step : ℕ → ℕ → ℕ × Shift → List Number → ExpectedStep
 level_step limit j (v, from_lower b) y = (Recover 0 j 0 1, sum_fits limit b (value_of_column y v))
 level_step limit j (v, from_upper b) y = (Recover 0 j 0 1, difference_fits limit b (value_of_column y v))
 level_step limit j (v, free) y = (Recover 0 j 0 1, difference_fits limit (value_of_column y v) (value_of_column y (v + 1)))
 
--- the steps on the entries of row i from place e on, where s is the sum so far: product, then sum
+-- the steps that compute the sum of row i at the point x, from its entry e on, where s is the sum
+-- so far: for each entry the product, then the sum
 abbrev pub row_level_steps : {F : Type 0} → (F → Number) → ℕ → ℕ → ℕ → Number → List (ℕ × F) → List Number → List ExpectedStep
 row_level_steps value limit i e s [] x = []
 row_level_steps value limit i e s (p ∷ entries) x =
     (Recover 1 i e 0, product_fits limit (value p.1) (value_of_column x p.0))
     ∷ (Recover 1 i e 1, sum_fits limit s (value p.1 *ℚ value_of_column x p.0)) ∷ row_level_steps value limit i (e + 1) (s +ℚ value p.1 *ℚ value_of_column x p.0) entries x
 
--- the steps on the duals of rows from row i on, whose first standard row is at place r: the
--- difference for an equation
+-- the steps that compute the duals of rows, of which the first is row i: a difference for an
+-- equation, none for another; p has the multipliers of standard rows, and r is the first that
+-- belongs to row i
 abbrev pub dual_steps : {F : Type 0} → ℕ → (ℕ → Number) → ℕ → ℕ → List (Row F) → List ExpectedStep
 dual_steps limit p i r [] = []
 dual_steps limit p i r (row ∷ rows) =
     (if rows_of_sense row.sense == 2 then (Recover 2 i 0 1, difference_fits limit (p r) (p (r + 1))) ∷ [] else [])
     ++ dual_steps limit p (i + 1) (r + rows_of_sense row.sense) rows
 
--- the steps on the reduced costs of columns from place j on: the sum for a column that has a row,
--- which is at place r
+-- the steps that compute the reduced costs of columns, of which the first is column j. A column
+-- with two bounds has a row in the standard form: its step is the sum of the coefficient of its
+-- variable in the priced row of the final dictionary (`costs`, by variable) and the multiplier of
+-- its row (p, by row). Another column has no step. Row r is the next row of a column, that of
+-- column j if it has one. In the name of a step 3 means reduced costs, and 1 a sum.
 abbrev pub reduced_steps : {F : Type 0} → ℕ → List Number → (ℕ → Number) → ℕ → ℕ → List (ℕ × Shift) → List (Column F) → List ExpectedStep
 reduced_steps limit costs p j r [] columns = []
 reduced_steps limit costs p j r (s ∷ shifts) [] = []
@@ -151,44 +163,51 @@ reduced_steps limit costs p j r (s ∷ shifts) (column ∷ columns) =
     (if rows_of_bounds column.lower column.upper == 1 then (Recover 3 j 0 1, sum_fits limit (value_of_column costs s.0) (p r)) ∷ [] else [])
     ++ reduced_steps limit costs p (j + 1) (r + rows_of_bounds column.lower column.upper) shifts columns
 
--- the step on the change of a column along a ray: the difference for a free one
+-- the step that computes the change of column j along a ray: the difference of its two variables'
+-- changes if it is free, else none
 abbrev pub ray_step : ℕ → ℕ → ℕ × Shift → List Number → List ExpectedStep
 ray_step limit j (v, from_lower b) changes = []
 ray_step limit j (v, from_upper b) changes = []
 ray_step limit j (v, free) changes = (Recover 4 j 0 1, difference_fits limit (value_of_column changes v) (value_of_column changes (v + 1))) ∷ []
 
 module _ {F : Type 0} (value : F → Number) (limit : ℕ) (lp : Lp F) (last : Last) where
-  -- the steps on the levels, and those on the row levels
+  -- the steps that compute the columns' values
   abbrev pub levels_steps : List ExpectedStep
   levels_steps = map (λ (p : ℕ × (ℕ × Shift)). level_step limit p.0 p.1 last.values) (enumerate_from 0 (columns_of value lp))
 
+  -- the steps that compute the rows' sums at the columns' values
   abbrev pub row_levels_steps : List ExpectedStep
   row_levels_steps = flat_map (λ (p : ℕ × Row F). row_level_steps value limit p.0 0 (whole (pos 0)) p.1.entries (levels_back value lp last)) (enumerate_from 0 lp.rows)
 
-  -- the steps on the duals, or on the factors of rows where no point is feasible
+  -- the steps that compute the duals, or the factors of rows if no point is feasible
   abbrev pub duals_steps : List ExpectedStep
   duals_steps = dual_steps limit (multiplier (variables_of value lp) last.costs) 0 0 lp.rows
 
+  -- the steps that compute the columns' reduced costs
   abbrev pub reduced_costs_steps : List ExpectedStep
   reduced_costs_steps = reduced_steps limit last.costs (multiplier (variables_of value lp) last.costs) 0 (count_of_rows lp.rows) (columns_of value lp) lp.columns
 
+  -- the steps that compute the columns' changes along a ray
   abbrev pub ray_steps : List ExpectedStep
   ray_steps = flat_map (λ (p : ℕ × (ℕ × Shift)). ray_step limit p.0 p.1 last.changes) (enumerate_from 0 (columns_of value lp))
 
-  -- the steps of the recovery, by the kind of end
+  -- the steps of the recovery of an optimum
   abbrev pub optimal_steps : List ExpectedStep
   optimal_steps = levels_steps ++ row_levels_steps ++ duals_steps ++ reduced_costs_steps
 
+  -- the steps of the recovery if no point is feasible
   abbrev pub infeasible_steps : List ExpectedStep
   infeasible_steps = duals_steps
 
+  -- the steps of the recovery of an unbounded end
   abbrev pub unbounded_steps : List ExpectedStep
   unbounded_steps = levels_steps ++ row_levels_steps ++ ray_steps
 
+  -- the steps of the recovery of an interrupted end
   abbrev pub interrupted_steps : List ExpectedStep
   interrupted_steps = levels_steps ++ row_levels_steps
 
--- the steps of the recovery of each kind of end, in order
+-- the steps of the recovery, in order, by the kind of end
 abbrev pub steps_back : {F : Type 0} → (F → Number) → ℕ → Lp F → EndKind → Last → List ExpectedStep
 steps_back value limit lp kind.Optimal last = optimal_steps value limit lp last
 steps_back value limit lp kind.Infeasible last = infeasible_steps value limit lp last
@@ -198,8 +217,8 @@ steps_back value limit lp kind.Interrupted last = interrupted_steps value limit 
 -- ---- the check of a point: its bounds, without a step; then the sum of each row, entry by entry;
 -- steps count from 0
 
--- the sum s plus the entries of a row, where the next step has number n; or the first step that
--- does not fit
+-- the sum s plus each entry's coefficient times the value of its column in x; or Err with the first
+-- step that does not fit; n is the number of the next step
 abbrev pub checked_sum : {F : Type 0} → (F → Number) → ℕ → List Number → ℕ → Number → List (ℕ × F) → Result Number StepName
 checked_sum value limit x n s [] = Ok s
 checked_sum value limit x n s (e ∷ entries) =
@@ -209,46 +228,49 @@ checked_sum value limit x n s (e ∷ entries) =
     Err (Check (n + 1))) else
     Err (Check n)
 
--- whether a number is at most another
+-- whether x is at most y
 abbrev pub at_most : Number → Number → Bool
 at_most x y = not (is_gt (number_cmp x y))
 
--- whether a number keeps a lower bound, if there is one
+-- whether x is at least the lower bound; true without a bound
 abbrev pub keeps_lower : Option Number → Number → Bool
 keeps_lower None x = true
 keeps_lower (Some bound) x = at_most bound x
 
--- whether a number keeps an upper bound, if there is one
+-- whether x is at most the upper bound; true without a bound
 abbrev pub keeps_upper : Option Number → Number → Bool
 keeps_upper None x = true
 keeps_upper (Some bound) x = at_most x bound
 
--- whether each column's value at a point keeps its bounds; the first of these columns has place j
+-- whether each column's value in x is within its bounds; j is the number of the first of these
+-- columns
 abbrev pub bounds_hold : {F : Type 0} → (F → Number) → List Number → ℕ → List (Column F) → Bool
 bounds_hold value x j [] = true
 bounds_hold value x j (column ∷ columns) =
     keeps_lower (bound_value value column.lower) (value_of_column x j) && keeps_upper (bound_value value column.upper) (value_of_column x j)
     && bounds_hold value x (j + 1) columns
 
--- whether a sum compares with a right side as the sense says
+-- whether a row's sum compares with its right side as the sense says
 abbrev pub keeps_sense : Sense → Number → Number → Bool
 keeps_sense sense.E sum right = at_most sum right && at_most right sum
 keeps_sense sense.L sum right = at_most sum right
 keeps_sense sense.G sum right = at_most right sum
 keeps_sense sense.N sum right = true
 
--- a nonbinding row is skipped
+-- whether a row of this sense is nonbinding
 abbrev pub asks_nothing : Sense → Bool
 asks_nothing sense.N = true
 asks_nothing s = false
 
--- a row's sum, if it fits, is compared: if the comparison fails the point is infeasible, else the
--- rest is checked
+-- the check of a row, and of the rows after it, whose answer is `rest`: Err with the step at which
+-- the row's sum stopped; Ok false if the sum does not compare with `right` as the sense s says;
+-- else `rest`
 abbrev pub compared : Result Number StepName → Sense → Number → Result Bool StepName → Result Bool StepName
 compared (Ok sum) s right rest = if keeps_sense s sum right then rest else Ok false
 compared (Err step) s right rest = Err step
 
--- the check of rows, the next step having number n
+-- Ok with whether the point x satisfies each of these rows, or Err with the first step that does
+-- not fit; n is the number of the next step, and a nonbinding row has none
 abbrev pub checked_rows : {F : Type 0} → (F → Number) → ℕ → List Number → ℕ → List (Row F) → Result Bool StepName
 checked_rows value limit x n [] = Ok true
 checked_rows value limit x n (row ∷ rows) =
@@ -256,11 +278,12 @@ checked_rows value limit x n (row ∷ rows) =
     checked_rows value limit x n rows else
     compared (checked_sum value limit x n (whole (pos 0)) row.entries) row.sense (value row.right) (checked_rows value limit x (n + 2 * length row.entries) rows)
 
--- how many steps the check of rows has
+-- how many steps the check of these rows has at most
 abbrev pub steps_of_rows : {F : Type 0} → List (Row F) → ℕ
 steps_of_rows [] = 0
 steps_of_rows (row ∷ rows) = (if asks_nothing row.sense then 0 else 2 * length row.entries) + steps_of_rows rows
 
--- the check of a point
+-- the check of the point x: Ok false if a value is outside its column's bounds; else the check of
+-- the rows
 abbrev pub checked_point : {F : Type 0} → (F → Number) → ℕ → Lp F → List Number → Result Bool StepName
 checked_point value limit lp x = if bounds_hold value x 0 lp.columns then checked_rows value limit x 0 lp.rows else Ok false

@@ -15,36 +15,37 @@ rows_of_sense sense.L = 1
 rows_of_sense sense.G = 1
 rows_of_sense sense.N = 0
 
--- a column with two bounds has one row of the standard form, any other none
+-- how many rows of the standard form a column's bounds have: one if there are two, else none
 abbrev pub rows_of_bounds : {F : Type 0} → Option F → Option F → ℕ
 rows_of_bounds (Some lower) (Some upper) = 1
 rows_of_bounds lower upper = 0
 
--- how many variables of the standard form a column has: two where it has no bound
+-- how many variables of the standard form a column has: two without a bound, else one
 abbrev pub variables_of_bounds : {F : Type 0} → Option F → Option F → ℕ
 variables_of_bounds None None = 2
 variables_of_bounds lower upper = 1
 
--- how many rows of the standard form rows have
+-- how many rows of the standard form a list of rows has in all
 abbrev pub count_of_rows : {F : Type 0} → List (Row F) → ℕ
 count_of_rows {F} rows = sum_by (λ (row : Row F). rows_of_sense row.sense) rows
 
--- the rows of the standard form
+-- how many rows the standard form has: those of rows, and those of columns with two bounds
 abbrev pub standard_rows : {F : Type 0} → Lp F → ℕ
 standard_rows {F} lp = count_of_rows lp.rows + sum_by (λ (column : Column F). rows_of_bounds column.lower column.upper) lp.columns
 
--- the variables of the standard form, without slacks
+-- how many variables the standard form has, without slacks
 abbrev pub standard_columns : {F : Type 0} → Lp F → ℕ
 standard_columns {F} lp = sum_by (λ (column : Column F). variables_of_bounds column.lower column.upper) lp.columns
 
--- the entries of a row ascend by column, name columns of the program, and are not 0
+-- The entries of a row ascend by column, name columns below `columns`, and are not 0.
 pub record AreRowEntries {F : Type 0} (value : F → Number) (columns : ℕ) (entries : List (ℕ × F)) : Type 0 where
   pub ascending : AllPairs (λ (a b : ℕ × F). a.0 < b.0) entries
   pub there : All (λ (e : ℕ × F). e.0 < columns) entries
   pub not_zero : All (λ (e : ℕ × F). value e.1 ≢ whole (pos 0)) entries
 
--- A well-formed program: its objective is one of its columns, keys are distinct, each row's entries
--- are in order, and the standard form has at most 1,500 rows and 3,000 variables.
+-- A well-formed program: its objective is one of its columns, the keys of columns differ and those
+-- of rows too, each row's entries are in order, and the standard form has at most 1,500 rows and
+-- 3,000 variables.
 pub record IsWellFormed {F : Type 0} (value : F → Number) (lp : Lp F) : Type 0 where
   pub objective : lp.objective < length lp.columns
   pub columns_differ : AllPairs (λ (a b : Column F). a.key ≢ b.key) lp.columns

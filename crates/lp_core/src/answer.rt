@@ -6,97 +6,101 @@ use thiserror::Error;
 /// in the standard form.
 #[derive(Clone, Copy)]
 pub struct Pivot {
-    /// The variable that enters.
+    /// The variable that enters the basis, by its number in the standard form.
     pub enter: u32,
-    /// The variable that leaves.
+    /// The variable that leaves the basis, by its number in the standard form.
     pub leave: u32,
 }
 
-/// Which pivots a solver makes.
+/// Which variables may enter and leave the basis in the pivots of a solver.
 #[derive(Clone, Copy)]
 pub enum Rule {
     /// Of the improving variables the least enters, and of the tied ones the least leaves.
     Bland,
     /// Any improving variable enters, and any tied one leaves, or variable 0 if it ties. At the
-    /// opening any variable with the least constant leaves.
+    /// opening, the pivot in which variable 0 enters, any variable with the least constant leaves.
     Legal,
 }
 
-/// A step of the way from a program to its answer that may not fit under the limit of the numbers.
+/// A step on the way from a program to its answer: a product, quotient, sum or difference, which
+/// may not fit under the limit of the numbers.
 ///
-/// Part 0 of a step is a product or a quotient, part 1 a sum or a difference.
+/// A field `part` is 0 for a product or a quotient, and 1 for a sum or a difference; in `Check` the
+/// field is the number of the step, from 0.
 #[derive(Clone, Copy, Debug, Error)]
 pub enum StepName {
-    /// In the standard form: taking a bound out of a row, or from a column's other bound. `row` is
-    /// a standard row and `column` a column of the program, both from 1.
+    /// In the standard form: a coefficient times the bound of its column, and the right side less
+    /// this product; or the difference of a column's two bounds.
     #[error("beyond the field's limit in the standard form: row {row}, column {column}, part {part}")]
     Standard {
-        /// The standard row.
+        /// The row of the standard form, from 1.
         row: u32,
-        /// The column.
+        /// The column of the program, from 1.
         column: u32,
-        /// The part.
+        /// 0 for a product, 1 for a difference.
         part: u8,
     },
-    /// In the ratio test of a pivot: the quotient of a row. Pivots and rows count from 1.
+    /// In the ratio test of a pivot: a row's constant over its coefficient of the entering
+    /// variable.
     #[error("beyond the field's limit in a ratio: pivot {pivot}, row {row}")]
     Ratio {
-        /// The pivot.
+        /// The number of the pivot, from 1.
         pivot: u64,
-        /// The row.
+        /// The row of the dictionary, from 1.
         row: u32,
     },
-    /// In the exchange of a pivot: an entry of a row. Column 0 is the constant, and variable v has
-    /// column v + 1.
+    /// In the exchange of a pivot: a new number of a row.
     #[error("beyond the field's limit in an exchange: pivot {pivot}, row {row}, column {column}, part {part}")]
     Exchange {
-        /// The pivot.
+        /// The number of the pivot, from 1.
         pivot: u64,
-        /// The row; the objective comes after the last.
+        /// The row of the dictionary, from 1; the objective comes after the last.
         row: u32,
-        /// The column.
+        /// The column: 0 for the constant, v + 1 for variable v.
         column: u32,
-        /// The part.
+        /// 0 for a product or a quotient, 1 for a difference.
         part: u8,
     },
-    /// In the recovery from a dictionary: 0 levels, 1 row levels, 2 duals, 3 reduced costs, 4 the
-    /// ray.
+    /// In the recovery of an answer from the final dictionary.
     #[error("beyond the field's limit in the recovery: list {what}, index {index}, entry {entry}, part {part}")]
     Recover {
-        /// Which list.
+        /// What is computed: 0 the columns' values, 1 the rows' sums, 2 duals, 3 reduced costs, 4
+        /// the ray.
         what: u8,
-        /// The place in the list, from 0.
+        /// The position in this list, from 0.
         index: u64,
-        /// The place of the row's entry, from 0; 0 without an entry.
+        /// For a row's sum the position of the entry in the row, from 0; else 0.
         entry: u32,
-        /// The part.
+        /// 0 for a product, 1 for a sum or a difference.
         part: u8,
     },
-    /// In a check of a point or of duals: the steps count from 0.
+    /// In a check of a point or of duals.
     #[error("beyond the field's limit in a check: part {part}")]
     Check {
-        /// The number of the step.
+        /// The number of the step, from 0.
         part: u64,
     },
 }
 
-/// How a search ends at a final dictionary. Each kind has its condition, the steps of its recovery,
-/// the result of the recovery, and the certificate.
+/// How a search ends at a final dictionary. The kind of end determines which lists the recovery of
+/// the answer computes from this dictionary, and by which steps. The lists are the certificate of
+/// the end.
 #[derive(Clone, Copy)]
 pub enum EndKind {
     /// No variable improves the objective, and variable 0 is not basic.
     Optimal,
-    /// No variable improves, and variable 0 is basic: it is above 0.
+    /// No variable improves, and variable 0, the artificial variable, is basic with a value above
+    /// 0.
     Infeasible,
-    /// A variable improves the objective, and no row limits it.
+    /// A variable improves the objective, and no row limits how far it rises.
     Unbounded,
     /// The search was broken off in phase 2, though a variable improves.
     Interrupted,
 }
 
-/// How the search for an answer ended.
+/// How the search for the answer of a linear program ended, with the values that it found.
 pub enum End<F> {
-    /// No feasible point is better.
+    /// The levels are a feasible point, and no feasible point is better.
     Optimal {
         /// The value of each column.
         levels: Sequence<F>,
@@ -109,22 +113,24 @@ pub enum End<F> {
     },
     /// No point is feasible.
     Infeasible {
-        /// A factor for each row: the rows so combined demand what no point satisfies. Each is 0 if
-        /// the bounds of a column cross.
+        /// A factor for each row: no point within the bounds satisfies the sum of the rows times
+        /// their factors. Each is 0 if the bounds of a column cross.
         duals: Sequence<F>,
-        /// The first column whose lower bound exceeds its upper bound, if any.
+        /// The first column whose lower bound exceeds its upper bound, by its number from 0; `None`
+        /// if no bounds cross.
         crossed: Option<u32>,
     },
-    /// There are better feasible points without limit.
+    /// The levels are a feasible point, and from it the objective improves without limit along the
+    /// ray.
     Unbounded {
         /// The value of each column.
         levels: Sequence<F>,
         /// The sum of each row.
         row_levels: Sequence<F>,
-        /// The direction in which points stay feasible and become better.
+        /// The change of each column along the ray.
         ray: Sequence<F>,
     },
-    /// The limit of pivots was met.
+    /// The limit of pivots was met, and a further pivot was required.
     Interrupted {
         /// 1 until a feasible point is found, then 2.
         phase: u8,
@@ -140,7 +146,7 @@ pub enum End<F> {
     },
 }
 
-// Written out, so that it is proved here alone, and not in each crate that lets one go.
+// Written out, so that it is proved once, and not in each crate that drops one.
 impl<F: Drop> Drop for End<F> {
     fn drop(self) {
         match self {
@@ -171,13 +177,13 @@ impl<F: Drop> Drop for End<F> {
 
 /// The answer of a linear program: its pivots, in order, and how the search ended.
 pub struct Answer<F> {
-    /// The pivots.
+    /// The pivots that were made, in order.
     pub pivots: Sequence<Pivot>,
-    /// The end.
+    /// How the search for the answer ended, with the values that it found.
     pub end: End<F>,
 }
 
-// Written out, so that it is proved here alone, and not in each crate that lets one go.
+// Written out, so that it is proved once, and not in each crate that drops one.
 impl<F: Drop> Drop for Answer<F> {
     fn drop(self) {
         let Self { pivots: _, end: _ } = self;

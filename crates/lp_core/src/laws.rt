@@ -17,8 +17,9 @@ ghost use Rattle.lp_core.specs.Proofs.{ProvesOptimal, ProvesInfeasible, ProvesCr
 
 use gq_field::ExactField;
 
-/// Weak duality: no feasible point is better than the bound that duals give, so none is better than
-/// a certified optimum (Chvatal, Linear Programming, chapter 5).
+/// Weak duality: no feasible point has a better objective than the bound that the dual values of
+/// the rows give. So no feasible point is better than an optimum that comes with its certificate
+/// (Chvatal, Linear Programming, chapter 5).
 pub fn weak_duality<F: ExactField>()
     ensures least { (lp : Lp F) (duals x : List Number) (bound : Number) →
         IsWellFormed F.value lp → Feasible F.value lp x → lp.maximize ≡ false →
@@ -36,21 +37,23 @@ pub fn weak_duality<F: ExactField>()
         value_of_column x lp.objective ≤ℚ value_of_column levels lp.objective }
 {}
 
-/// Farkas: a combination of rows and bounds is 0 at every point; if its lower bound is above 0, no
-/// point is feasible (Chvatal, Linear Programming, chapter 9).
+/// Farkas: no point is feasible if `duals`, a factor for each row, are a certificate of this. Their
+/// combination of rows and bounds would give the number 0 a lower bound above 0 at a feasible point
+/// (Chvatal, Linear Programming, chapter 9).
 pub fn farkas<F: ExactField>()
     ensures { (lp : Lp F) (duals x : List Number) → IsWellFormed F.value lp →
         ProvesInfeasible F.value lp duals → ¬ (Feasible F.value lp x) }
 {}
 
-/// A column whose lower bound exceeds its upper bound leaves no feasible point.
+/// If the lower bound of a column exceeds its upper bound, no point is feasible.
 pub fn crossed_bounds<F: ExactField>()
     ensures { (lp : Lp F) (j : ℕ) (duals x : List Number) →
         ProvesCrossed F.value lp j duals → ¬ (Feasible F.value lp x) }
 {}
 
-/// The point plus each nonnegative multiple of the ray is feasible, and the objective passes every
-/// number along it.
+/// The certificate of an unbounded end, a point and a ray. The point plus each nonnegative multiple
+/// of the ray is feasible. For each number, one of these sums has an objective that is at most this
+/// number when minimizing, and at least this number when maximizing.
 pub fn unbounded_ray<F: ExactField>()
     ensures feasible { (lp : Lp F) (levels row_levels ray : List Number) (t : Number) →
         IsWellFormed F.value lp → ProvesUnbounded F.value lp levels row_levels ray →
@@ -63,9 +66,9 @@ pub fn unbounded_ray<F: ExactField>()
         (t : Number) × (whole (pos 0) ≤ℚ t) × (goal ≤ℚ value_of_column (further levels t ray) lp.objective) }
 {}
 
-/// Answers under other conditions. An answer under Bland's rule is one under the rule Legal, which
-/// lets every improving variable enter. An optimum is an answer under each limit of pivots that it
-/// keeps.
+/// Answers under other conditions. An answer under Bland's rule is also one under the rule Legal,
+/// which lets every improving variable enter (`legal`). An answer that ends as Optimal is also an
+/// answer under each other limit of pivots that is at least its number of pivots (`within`).
 pub fn answers_too<F: ExactField>()
     ensures legal { (lp : Lp F) (iterlim : ℕ) (answer : Answer F) →
         IsAnswer F.value F.limit lp iterlim Bland answer → IsAnswer F.value F.limit lp iterlim Legal answer }

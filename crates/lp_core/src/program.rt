@@ -3,7 +3,7 @@
 use crate::sequence::Sequence;
 use lp_form::Key;
 
-/// How the sum of a row and its right side compare.
+/// How the sum of a row has to compare with the right side of the row.
 #[derive(Clone, Copy)]
 pub enum Sense {
     /// `=e=`: they are equal.
@@ -16,17 +16,19 @@ pub enum Sense {
     N,
 }
 
-/// A column: an element of a variable with its bounds, each of which may be none.
+/// A column: an element of a variable, with a lower and an upper bound of its value, each of which
+/// is optional.
 pub struct Column<F> {
-    /// The element.
+    /// The column's element of a variable: the number of the variable, and the labels of the
+    /// element.
     pub key: Key,
-    /// The lower bound.
+    /// The lower bound of the column's value; `None` if it has no lower bound.
     pub lower: Option<F>,
-    /// The upper bound.
+    /// The upper bound of the column's value; `None` if it has no upper bound.
     pub upper: Option<F>,
 }
 
-// Written out, so that it is proved here alone, and not in each crate that lets one go.
+// Written out, so that it is proved once, and not in each crate that drops one.
 impl<F: Drop> Drop for Column<F> {
     fn drop(self) {
         let Self {
@@ -41,17 +43,18 @@ impl<F: Drop> Drop for Column<F> {
 ///
 /// `supply.. x + 2*y =l= 9;` is a row of sense L with the right side 9 and two entries.
 pub struct Row<F> {
-    /// The element.
+    /// The row's element of an equation: the number of the equation, and the labels of the element.
     pub key: Key,
-    /// How the row's sum and its right side compare.
+    /// How the sum of the row has to compare with the row's right side.
     pub sense: Sense,
-    /// The right side.
+    /// The right side: the number with which the sum of the row is compared.
     pub right: F,
-    /// The coefficients that are not 0, each with the place of its column, by ascending place.
+    /// The coefficients that are not 0, each after the number of its column, from 0. The numbers of
+    /// the columns ascend.
     pub entries: Sequence<(u32, F)>,
 }
 
-// Written out, so that it is proved here alone, and not in each crate that lets one go.
+// Written out, so that it is proved once, and not in each crate that drops one.
 impl<F: Drop> Drop for Row<F> {
     fn drop(self) {
         let Self {
@@ -63,19 +66,20 @@ impl<F: Drop> Drop for Row<F> {
     }
 }
 
-/// A linear program: the objective is the value of one of the columns, to maximize or minimize.
+/// A linear program: columns, rows, and an objective, which is the value of one of the columns and
+/// is to be maximized or minimized.
 pub struct Lp<F> {
-    /// The columns.
+    /// The columns. The number of a column is its position in this list, from 0.
     pub columns: Sequence<Column<F>>,
-    /// The rows.
+    /// The rows. A list with a value for each row, such as that of the dual values, has this order.
     pub rows: Sequence<Row<F>>,
-    /// The place of the objective among the columns.
+    /// The number of the column whose value is the objective, from 0.
     pub objective: u32,
-    /// Whether to maximize the objective, or else to minimize it.
+    /// Whether the objective is to be maximized; otherwise it is to be minimized.
     pub maximize: bool,
 }
 
-// Written out, so that it is proved here alone, and not in each crate that lets one go.
+// Written out, so that it is proved once, and not in each crate that drops one.
 impl<F: Drop> Drop for Lp<F> {
     fn drop(self) {
         let Self {

@@ -3,7 +3,8 @@ ghost use Rattle.std.specs.Prelude.{◌≡◌, ◌↔◌, [], length, IsTrue};
 
 use std::marker::Model;
 
-/// A list of values. It is made from a `Vec` and gives it back; neither uses memory.
+/// A list of values. `new` makes it from a `Vec`, and `into_vec` gives that `Vec` back; neither
+/// call allocates.
 ///
 /// In a contract, two sequences are equal if they have the same values in the same order, wherever
 /// they are stored.
@@ -24,14 +25,14 @@ impl<T> Model for Sequence<T> {
 }
 
 impl<T> Sequence<T> {
-    /// These values, in order.
+    /// The sequence of these values, in the same order.
     pub fn new(values: Vec<T>) -> Sequence<T>
         ensures { result ≡ values.items }
     {
         Sequence { values }
     }
 
-    /// The values as the `Vec` that the sequence was made from.
+    /// The values of the sequence, in order, as the `Vec` from which the sequence was made.
     pub fn into_vec(self) -> Vec<T>
         ensures { result.items ≡ self }
     {
@@ -39,21 +40,21 @@ impl<T> Sequence<T> {
         values
     }
 
-    /// The values, in order.
+    /// The values of the sequence, in order.
     pub fn as_slice(&self) -> &[T]
         ensures { result.now ≡ self.now }
     {
         self.values.as_slice()
     }
 
-    /// How many values there are.
+    /// How many values the sequence has.
     pub fn len(&self) -> usize
         ensures { result ≡ length self.now }
     {
         self.values.len()
     }
 
-    /// Whether there is no value.
+    /// Whether the sequence has no values.
     pub fn is_empty(&self) -> bool
         ensures { IsTrue result ↔ (self.now ≡ []) }
     {

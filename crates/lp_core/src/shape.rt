@@ -107,8 +107,8 @@ fn have_entries<F: ExactField>(rows: &[Row<F>], columns: usize) -> bool
     true
 }
 
-/// How many rows of the standard form a row has: two for an equation, one for an inequality, none
-/// for a nonbinding row (`=n=`).
+/// How many rows a row of this sense has in the standard form: two for an equation, one for an
+/// inequality, none for a nonbinding row (`=n=`).
 pub fn rows_by_sense(sense: Sense) -> usize
     ensures { result ≡ rows_of_sense sense }
 {
@@ -151,8 +151,8 @@ fn variables_by_bounds<F>(column: &Column<F>) -> usize
     }
 }
 
-/// How many rows of the standard form the bounds of columns have: one for each column with two
-/// bounds. The greatest `usize` if there are more.
+/// How many rows the bounds of these columns have in the standard form: one for each column that
+/// has both a lower and an upper bound. The count saturates at the greatest `usize`.
 pub fn count_bounds<F>(columns: &[Column<F>]) -> usize
     ensures { result ≡ counted (sum_by (λ column. rows_of_bounds column.lower column.upper) columns.now) }
 {
@@ -163,8 +163,8 @@ pub fn count_bounds<F>(columns: &[Column<F>]) -> usize
     count
 }
 
-/// How many variables of the standard form columns have: two for each column without bounds, one
-/// for each other. The greatest `usize` if there are more.
+/// How many variables these columns have in the standard form, slacks not counted: two for each
+/// column without bounds, one for each other column. The count saturates at the greatest `usize`.
 pub fn count_variables<F>(columns: &[Column<F>]) -> usize
     ensures { result ≡ counted (sum_by (λ column. variables_of_bounds column.lower column.upper) columns.now) }
 {
@@ -175,9 +175,10 @@ pub fn count_variables<F>(columns: &[Column<F>]) -> usize
     count
 }
 
-/// Whether a program is well formed: its objective is one of its columns, keys are distinct, the
-/// entries of each row are in order, and its standard form has at most 1,500 rows and 3,000
-/// variables.
+/// Whether a program is well formed: the objective is one of the columns; no two columns have the
+/// same key, and no two rows; the entries of each row ascend by column, name columns of the program
+/// and are not 0; and the standard form has at most 1,500 rows and 3,000 variables, slacks not
+/// counted.
 pub fn well_formed<F: ExactField>(lp: &Lp<F>) -> bool
     ensures { IsTrue result ↔ IsWellFormed F.value lp.now }
 {

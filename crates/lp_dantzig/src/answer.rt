@@ -16,12 +16,14 @@ use std::alloc::{AllocError, Global};
 /// The only answer of a program by the rule of the largest coefficient, found by at most `iterlim`
 /// pivots: Chvatal, Linear Programming, chapters 2 and 3.
 ///
-/// The variable that improves with the greatest coefficient enters, and of the tied ones the least
-/// leaves. After as many successive pivots without gain as there are variables, Bland's rule takes
-/// over to the end of the phase. Optimal, Infeasible and Unbounded come with their certificates.
-/// Interrupted is the end after exactly `iterlim` pivots when a further one is required. Refused
-/// has the first step that does not fit under the limit of the field. The turn bounds the pivots,
-/// and with a limit of at least the bound the end is not Interrupted. The error is out of memory.
+/// Of the variables that improve, one with the greatest coefficient enters, and of several such the
+/// one with the least number. Of those that tie in the ratio test the one with the least number
+/// leaves. After as many successive degenerate pivots as there are variables, Bland's rule takes
+/// over to the end of the phase (the turn). Optimal, Infeasible and Unbounded come with their
+/// certificates. Interrupted is the end after exactly `iterlim` pivots when a further one is
+/// required. Refused has the first step whose number is beyond the limit of the field. The turn
+/// bounds the number of pivots, and if `iterlim` is at least this bound, the end is not
+/// Interrupted. The only error is out of memory.
 pub fn solve_in<F: ExactField>(
     alloc: Global,
     lp: &Lp<F>,

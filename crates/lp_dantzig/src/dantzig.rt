@@ -17,9 +17,9 @@ use lp_slot::{LpSolver, SolverRule};
 use std::alloc::{AllocError, Global};
 use std::marker::Model;
 
-/// Dantzig's solver: the variable that improves with the greatest coefficient enters, and of the
-/// tied ones the least leaves. After long without gain it turns to Bland's rule, which does not
-/// cycle.
+/// Dantzig's solver: the variable that improves with the greatest coefficient enters, and of those
+/// that tie in the ratio test the one with the least number leaves. After a long run of degenerate
+/// pivots it turns to Bland's rule, which does not cycle.
 #[derive(Drop)]
 pub struct Dantzig {
     taken: Vec<Sequence<Pivot>>,
@@ -35,7 +35,7 @@ impl Model for Dantzig {
 }
 
 impl Dantzig {
-    /// A solver that has given no answer. It keeps the allocator and takes no memory.
+    /// A solver that has given no answer. It stores the allocator and allocates nothing.
     pub fn new(alloc: Global) -> Dantzig
         ensures { result ≡ [] }
     {
@@ -64,9 +64,9 @@ impl LpSolver for Dantzig {
         self.taken.as_slice()
     }
 
-    /// The only answer of a program by the rule of the largest coefficient with the turn to Bland's
-    /// rule: its pivots are legal, and pivots, end and refused step are those of that rule. The
-    /// turn bounds the pivots, and with a limit of at least the bound the end is not Interrupted.
+    /// The only answer of a program by the rule of the largest coefficient, which turns to Bland's
+    /// rule after a long run of degenerate pivots. Its pivots are legal. The turn bounds their
+    /// number, and if `iterlim` is at least this bound, the end is not Interrupted.
     fn solve(
         &mut self,
         alloc: Global,

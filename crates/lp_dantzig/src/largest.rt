@@ -6,9 +6,9 @@ use gq_field::ExactField;
 use lp_dict::Dict;
 use lp_simplex::Picking;
 
-/// The rule of the largest coefficient: the variable that improves with the greatest coefficient
-/// enters, and of equal ones the least: Chvatal, Linear Programming, chapter 2. It remembers
-/// nothing.
+/// The rule of the largest coefficient: the variable enters that improves with the greatest
+/// coefficient in the priced row, and of several such the least (Chvatal, Linear Programming,
+/// chapter 2). It remembers no pivots.
 #[derive(Drop)]
 pub(crate) struct Largest;
 

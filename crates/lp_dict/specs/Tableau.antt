@@ -8,8 +8,8 @@ use Rattle.lp_integer_dict.specs.Whole.{integer_dictionary as dictionary_of}
 use Rattle.lp_dict.specs.declared.body.Body.{Body}
 use Rattle.lp_dict.specs.declared.body.Body.TheVariants as body
 
--- The basic variables; how the numbers are stored; and the number that the next pivot has in the
--- names of its steps.
+-- A dictionary: the basic variable of each row, the stored numbers (`body`), and `upcoming`, the
+-- number that the next pivot has in the names of its steps.
 pub record Tableau (F : Type 0) : Type 0 where
   -- the greatest number of a variable
   pub variables : ℕ
@@ -17,32 +17,33 @@ pub record Tableau (F : Type 0) : Type 0 where
   pub body : Body F
   pub upcoming : ℕ
 
--- the number of the next pivot
+-- the number that the next pivot of a stored dictionary has in the names of its steps
 abbrev pub upcoming_of : {F : Type 0} → Body F → ℕ
 upcoming_of (body.Whole w upcoming) = upcoming
 upcoming_of (body.Exact t) = t.upcoming
 
--- the dictionary that a body stores
+-- the dictionary that is stored, by integer rows or by fractions
 abbrev pub kept : {F : Type 0} → (F → Number) → Body F → Dictionary
 kept value (body.Whole w upcoming) = dictionary_of w
 kept value (body.Exact t) = exact.fraction_dictionary value t
 
--- the view of a stored dictionary that callers have
+-- the view that callers have of a stored dictionary
 abbrev pub tableau : {F : Type 0} → (F → Number) → Body F → Tableau F
 tableau value b =
     record { variables = (kept value b).variables; basic = (kept value b).basic; body = b; upcoming = upcoming_of b }
 
--- the dictionary of a tableau; the row past the last is the objective
+-- the dictionary of a tableau; the row after the last is the objective
 abbrev pub dictionary : {F : Type 0} → (F → Number) → Tableau F → Dictionary
 dictionary value t = record { variables = t.variables; basic = t.basic; numbers = (kept value t.body).numbers }
 
--- no integer or denominator of integer rows exceeds the limit of the field
+-- the bound of the integer rows is at most the limit of the field; fractions have no such bound
 abbrev pub IsWithinField : {F : Type 0} → ℕ → Body F → Type 0
 IsWithinField limit (body.Whole w upcoming) = w.bound ≤ limit
 IsWithinField limit (body.Exact t) = Unit {0}
 
--- The invariant of a dictionary: it is one of a program, its integers are numbers of the field, and
--- after a pivot the opening pivot is not required.
+-- The invariant of a stored dictionary: it satisfies `IsProper`, the invariant of a program's
+-- dictionaries; it has no more rows than variables; the bound of its integer rows is at most the
+-- limit of the field; and the opening pivot may be required only before the first pivot.
 pub record IsDictInvariant {F : Type 0} (value : F → Number) (limit : ℕ) (b : Body F) : Type 0 where
   pub proper : IsProper (kept value b)
   pub few : length (kept value b).basic ≤ (kept value b).variables

@@ -6,7 +6,7 @@ use lp_integer_dict::Whole;
 /// How a dictionary is stored.
 #[derive(Drop)]
 pub(crate) enum Body<F: ExactField> {
-    /// By integers over a common denominator for each row, all at most a bound; and the number of
+    /// By integers over a common denominator for each row, none beyond a bound; and the number of
     /// the next pivot.
     Whole(Whole, u64),
     /// By reduced fractions.

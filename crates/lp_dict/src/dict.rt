@@ -29,12 +29,12 @@ use lp_std::{Final, Standard, Stop};
 use std::alloc::{AllocError, Global};
 use std::marker::Model;
 
-/// A dictionary: an equation for each basic variable, and the objective (Chvatal, Linear
-/// Programming, chapters 2 and 3).
+/// A dictionary of the simplex method: an equation for each basic variable, which is its row, and
+/// one for the objective (Chvatal, Linear Programming, chapters 2 and 3).
 ///
-/// Its rows are integers over a common denominator each while they are small, and reduced fractions
-/// from the first pivot at which they are not; no result depends on which. Variable 0 is the
-/// artificial variable of phase 1.
+/// The rows are stored in one of two forms: as integers over a common denominator for each row, as
+/// long as these integers are small, and from the first pivot at which some are not, as reduced
+/// fractions. No result depends on the form. Variable 0 is the artificial variable of phase 1.
 #[derive(Drop)]
 pub struct Dict<F: ExactField> {
     body: Body<F>,
@@ -51,9 +51,10 @@ impl<F: ExactField> Model for Dict<F> {
 }
 
 impl<F: ExactField> Dict<F> {
-    /// The first dictionary of the standard form of a well-formed program: its slacks are basic. If
-    /// some right side is below 0, variable 0 occurs in each row, and the opening pivot is
-    /// required. The only error is out of memory.
+    /// The first dictionary of a standard form, in which the slacks are basic. The standard form
+    /// `s` is that of a well-formed program. If some right side is below 0, variable 0 occurs in
+    /// each row, and the opening pivot, in which variable 0 enters, is required. The number of the
+    /// next pivot is 1. The only error is out of memory.
     pub fn of(alloc: Global, s: &Standard<F>) -> Result<Dict<F>, AllocError>
         requires { (lp : Lp F) × IsWellFormed F.value lp × (standard_value F.value s.now ≡ standard_form F.value lp) }
         ensures first { IfOk result (λ d. dictionary F.value d ≡ first_dictionary (standard_value F.value s.now)) }
@@ -65,7 +66,7 @@ impl<F: ExactField> Dict<F> {
         Ok(Dict { body })
     }
 
-    /// The greatest number of a variable: the variables are 0 and those up to it.
+    /// The greatest number of a variable. The variables have the numbers from 0 to this one.
     pub fn variables(&self) -> u32
         ensures { result ≡ self.now.variables }
     {
@@ -85,8 +86,9 @@ impl<F: ExactField> Dict<F> {
         }
     }
 
-    /// The invariant of each dictionary, a law: it is one of a program, has no more rows than
-    /// variables, and few variables.
+    /// A law, with an empty body: what is true of each dictionary. Every basic variable occurs in
+    /// its own row alone, with coefficient 1; there are no more rows than the greatest number of a
+    /// variable; and the number of a column has at most 32 bits.
     pub fn keeps(&self)
         ensures proper { IsProper (dictionary F.value self.now) }
         ensures few { length self.now.basic ≤ self.now.variables }
@@ -98,7 +100,7 @@ impl<F: ExactField> Dict<F> {
         }
     }
 
-    /// How many rows there are, without the objective.
+    /// How many rows there are, that is, how many basic variables. The objective is not counted.
     pub fn len(&self) -> usize
         ensures { result ≡ length self.now.basic }
     {
@@ -108,7 +110,7 @@ impl<F: ExactField> Dict<F> {
         }
     }
 
-    /// The row in which a variable is basic, from 0; none if it is not basic.
+    /// The index, from 0, of the row in which variable `v` is basic; `None` if it is not basic.
     pub fn row_of(&self, v: u32) -> Option<usize>
         ensures { IsPlace self.now.basic v result }
     {
@@ -118,9 +120,9 @@ impl<F: ExactField> Dict<F> {
         }
     }
 
-    /// The number at a column of a row, or of the objective, which follows the rows. Column 0 is
-    /// the constant, and variable v has column v + 1. It takes no pass over rows or columns: a row
-    /// of fractions is bisected.
+    /// The number at a column of a row. `row` counts the rows from 0, and the objective follows the
+    /// last one. Column 0 is the constant, and variable v has column v + 1. A row of integers is
+    /// read without a search, a row of fractions by bisection.
     pub fn number(&self, row: usize, column: usize) -> F
         requires row { row ≤ length self.now.basic }
         requires column { column ≤ self.now.variables + 1 }
@@ -132,8 +134,9 @@ impl<F: ExactField> Dict<F> {
         }
     }
 
-    /// The number at a column as a numerator over a denominator above 0, which may have a common
-    /// factor: it costs no division.
+    /// The number at a column of a row, as a numerator over a denominator above 0, which may have a
+    /// common factor, since no division is made. `row` counts the rows from 0, and the objective
+    /// follows the last one. Column 0 is the constant, and variable v has column v + 1.
     #[inline(always)]
     pub fn fraction(&self, row: usize, column: usize) -> (i128, u128)
         requires row { row ≤ length self.now.basic }
@@ -153,8 +156,8 @@ impl<F: ExactField> Dict<F> {
         }
     }
 
-    /// 1 until variable 0 has left, which is while it is basic or the opening pivot is required;
-    /// then 2. It is 2 from the start if no right side is below 0.
+    /// The phase of the simplex method: 1 while variable 0 is basic or the opening pivot is
+    /// required, and otherwise 2. If no right side is below 0, the phase is 2 from the start.
     pub fn phase(&self) -> u8
         ensures { IsPhase (dictionary F.value self.now) result }
     {
@@ -165,7 +168,8 @@ impl<F: ExactField> Dict<F> {
         }
     }
 
-    /// The constant of a variable's row; 0 for a variable that is not basic.
+    /// The constant of the row in which variable `v` is basic, which is the value of `v`; 0 if `v`
+    /// is not basic.
     pub fn amount(&self, v: u32) -> F
         ensures basic { (k : ℕ) → slice_get self.now.basic k ≡ Some v → F.value result ≡ constant_at (dictionary F.value self.now) k }
         ensures other { ¬ (Contains self.now.basic v) → F.value result ≡ whole (pos 0) }
@@ -176,8 +180,8 @@ impl<F: ExactField> Dict<F> {
         }
     }
 
-    /// The number of a variable in the row of a basic one; 0 if the first is not basic, and if the
-    /// second is basic or no variable.
+    /// The coefficient of the variable `other` in the row in which the variable `basic` is basic.
+    /// The result is 0 if `basic` is not basic, if `other` is basic, and if `other` is no variable.
     pub fn entry(&self, basic: u32, other: u32) -> F
         ensures row { (k : ℕ) → slice_get self.now.basic k ≡ Some basic → ¬ (Contains self.now.basic other) → F.value result ≡
             entry_at (dictionary F.value self.now) k other }
@@ -191,8 +195,9 @@ impl<F: ExactField> Dict<F> {
         }
     }
 
-    /// The number of a variable in the priced row: that of variable 0 in phase 1, then the
-    /// objective. It is 0 for a basic variable, and for a number that is no variable.
+    /// The coefficient of variable `v` in the priced row, which is the row of variable 0 while
+    /// variable 0 is basic, and otherwise the objective. The result is 0 if `v` is basic or no
+    /// variable.
     pub fn coefficient(&self, v: u32) -> F
         ensures priced { (k : ℕ) → IsPriced (dictionary F.value self.now) k → ¬ (Contains self.now.basic v) → F.value result ≡
             entry_at (dictionary F.value self.now) k v }
@@ -205,8 +210,9 @@ impl<F: ExactField> Dict<F> {
         }
     }
 
-    /// Whether a variable improves: it is not basic and not variable 0, and its number in the
-    /// priced row is above 0. A number that is no variable does not.
+    /// Whether variable `v` improves: it is not basic and not variable 0, and its coefficient in
+    /// the priced row is above 0. The priced row is that of variable 0 while variable 0 is basic,
+    /// and otherwise the objective. False if `v` is no variable.
     pub fn improves(&self, v: u32) -> bool
         ensures { IsTrue result ↔ Improves (dictionary F.value self.now) v }
     {
@@ -222,8 +228,9 @@ impl<F: ExactField> Dict<F> {
         is_above_zero(self.coefficient(v))
     }
 
-    /// The opening pivot of Bland's choice, if one is required: variable 0 enters, and of the
-    /// variables with the least constant, which is below 0, the least leaves.
+    /// The opening pivot, in which variable 0 enters, by Bland's choice: of the basic variables
+    /// with the least constant, which is below 0, the one with the least number leaves. `None`
+    /// exactly if no constant is below 0, so that no opening pivot is required.
     pub fn opening(&self) -> Option<Pivot>
         ensures { MatchOption result (¬ (OpeningIsRequired (dictionary F.value self.now)))
             (λ p. ((k : ℕ) × IsOpening (dictionary F.value self.now) p k) ×
@@ -235,7 +242,9 @@ impl<F: ExactField> Dict<F> {
         }
     }
 
-    /// The least variable that improves; none exactly where there is none.
+    /// The variable with the least number of those that improve, that is, have a coefficient above
+    /// 0 in the objective of the phase; `None` exactly if none improves. The opening pivot must not
+    /// be required.
     pub fn entering(&self) -> Option<u32>
         requires { ¬ (OpeningIsRequired (dictionary F.value self.now)) }
         ensures { MatchOption result ((v : ℕ) → ¬ (Improves (dictionary F.value self.now) v))
@@ -248,7 +257,9 @@ impl<F: ExactField> Dict<F> {
     }
 
     /// The variable that improves with the greatest coefficient in the priced row, and of several
-    /// such the least. None exactly if nothing improves. It passes over that row once.
+    /// such variables the one with the least number; `None` exactly if none improves. The priced
+    /// row, which is visited once, is that of variable 0 while variable 0 is basic, and otherwise
+    /// the objective. The opening pivot must not be required.
     pub fn greatest(&self) -> Option<u32>
         requires { ¬ (OpeningIsRequired (dictionary F.value self.now)) }
         ensures { MatchOption result ((v : ℕ) → ¬ (Improves (dictionary F.value self.now) v)) (HasGreatest (dictionary F.value self.now)) }
@@ -259,10 +270,12 @@ impl<F: ExactField> Dict<F> {
         }
     }
 
-    /// The least of the variables that tie for leaving when `enter` enters. None exactly if no row
-    /// limits it.
+    /// The variable that leaves when the variable `enter`, which improves, enters: of those that
+    /// tie in the ratio test the one with the least number. `None` exactly if no row limits the
+    /// rise of `enter`.
     ///
-    /// `Limit` has the first ratio that does not fit. No other stop occurs.
+    /// The only error is `Limit`, with the first ratio of the test that does not fit under the
+    /// field's limit.
     pub fn leaving(&self, enter: u32) -> Result<Option<u32>, Stop>
         requires { Improves (dictionary F.value self.now) enter }
         ensures fits { IfOk result (λ _. AllFit (ratio_steps F.limit self.now.upcoming (dictionary F.value self.now) enter)) }
@@ -275,12 +288,14 @@ impl<F: ExactField> Dict<F> {
         }
     }
 
-    /// The dictionary after a legal pivot, in which `p.enter` is basic in the row of `p.leave`.
-    /// Variable 0 is dropped when it leaves. Rows without the entering variable are unchanged.
+    /// The dictionary after the pivot `p`, which is legal: `p.enter` becomes basic in the row of
+    /// `p.leave`. If variable 0 leaves, it is removed. Rows in which `p.enter` does not occur are
+    /// unchanged.
     ///
-    /// `Limit` has the first step that does not fit: first those of the leaving variable's row,
-    /// then those of the other rows in order, and those of the objective at the end. `Memory` means
-    /// out of memory. After either the dictionary is lost. `Crossed` does not occur.
+    /// The error `Limit` has the first step that does not fit under the field's limit. The steps of
+    /// the row of `p.leave` come first, then those of the other rows in order, and those of the
+    /// objective last. `Memory` means out of memory, and `Crossed` does not occur. After an error
+    /// the dictionary is lost.
     pub fn pivot(self, alloc: Global, p: Pivot) -> Result<Dict<F>, Stop>
         requires { (k : ℕ) × IsLegal (dictionary F.value self) p k }
         ensures exchanged { IfOk result (λ after. (k : ℕ) → slice_get self.basic k ≡ Some p.leave →
@@ -353,13 +368,13 @@ impl<F: ExactField> Dict<F> {
         }
     }
 
-    /// What is read from a final dictionary: how the search ends, the values and coefficients of
-    /// all variables, and the ray.
+    /// What is read from the final dictionary: how the search ends (the kind), the values and
+    /// coefficients of all variables, and the ray.
     ///
-    /// If `enter` is a variable that improves and that no row limits, in phase 2, the kind is
-    /// `Unbounded` and the ray is that of this variable. Without one, if nothing improves, the kind
-    /// is `Optimal`, or `Infeasible` in phase 1; else it is `Interrupted`, in phase 2. The only
-    /// error is out of memory.
+    /// If `enter` is a variable, it improves in phase 2, and no row limits its rise: the kind is
+    /// `Unbounded`, and the ray is that of this variable. If `enter` is `None`, the kind is
+    /// `Optimal` if nothing improves in phase 2, `Infeasible` if nothing improves in phase 1, and
+    /// otherwise `Interrupted`, in phase 2. The only error is out of memory.
     pub fn done(&self, alloc: Global, enter: Option<u32>) -> Result<Final<F>, AllocError>
         requires { IsDone (dictionary F.value self.now) enter }
         ensures kind { IfOk result (λ final. IsReadAt (dictionary F.value self.now) final.kind (last_with (dictionary F.value self.now) enter)) }

@@ -67,7 +67,7 @@ pub(crate) fn costs<F: ExactField>(alloc: Global, rows: &Whole) -> Result<Vec<F>
     Ok(costs)
 }
 
-/// The change of each variable when this nonbasic one rises by 1.
+/// The change of each variable if `enter`, which is not basic, rises by 1.
 pub(crate) fn ray<F: ExactField>(
     alloc: Global,
     rows: &Whole,

@@ -5,7 +5,7 @@ ghost use Rattle.lp_integer_dict.specs.Whole.{integer_dictionary as dictionary_o
 use gq_field::ExactField;
 use lp_integer_dict::Whole;
 
-/// The number at a column of a row, or of the objective, which follows the rows.
+/// The number at `column` of a row, or of the objective, which follows the rows, in the field.
 pub(crate) fn number_at<F: ExactField>(whole: &Whole, row: usize, column: usize) -> F
     requires bounded { whole.now.bound ≤ F.limit }
     requires row { row ≤ length (dictionary_of whole.now).basic }

@@ -15,8 +15,8 @@ use lp_fraction_dict::{Entry, ExactDict};
 use lp_integer_dict::Whole;
 use std::cmp::Ordering;
 
-/// The opening pivot of integer rows. It can be required only at the first dictionary, before the
-/// pivot with the number 1.
+/// The opening pivot of integer rows, if it is required. `upcoming` is the number of the next
+/// pivot: the opening pivot can be required only before pivot 1.
 pub(crate) fn opening_of(rows: &Whole, upcoming: u64) -> Option<Pivot>
     requires { upcoming ≢ 1 → ¬ (OpeningIsRequired (dictionary_of rows.now)) }
     ensures { MatchOption result (¬ (OpeningIsRequired (dictionary_of rows.now)))
@@ -29,7 +29,7 @@ pub(crate) fn opening_of(rows: &Whole, upcoming: u64) -> Option<Pivot>
     rows.opening()
 }
 
-/// The place of a variable among the basic ones.
+/// The row in which a variable is basic; `None` if it is not basic.
 pub(crate) fn place_among(basic: &[u32], variable: u32) -> Option<usize>
     ensures { IsPlace basic.now variable result }
 {
@@ -80,8 +80,8 @@ pub(crate) fn is_basic(rows: &Whole, v: u32) -> bool
     rows.place_of(v).is_some()
 }
 
-/// The priced row: that of variable 0 while it is basic, else the objective's, which follows the
-/// rows.
+/// The number of the priced row: that of variable 0 while this is basic, else the objective, which
+/// follows the rows.
 pub(crate) fn priced(rows: &Whole) -> usize
     ensures { result ≡ priced_row (dictionary_of rows.now) }
 {
@@ -92,7 +92,7 @@ pub(crate) fn priced(rows: &Whole) -> usize
     }
 }
 
-/// The constant of a variable's row; 0 for a variable that is not basic.
+/// The constant of the row in which variable `v` is basic; 0 if it is not basic.
 pub(crate) fn amount<F: ExactField>(rows: &Whole, v: u32) -> F
     requires { rows.now.bound ≤ F.limit }
     ensures basic { (k : ℕ) → slice_get (dictionary_of rows.now).basic k ≡ Some v → F.value result ≡ constant_at (dictionary_of rows.now) k }
@@ -120,8 +120,8 @@ fn free_entry<F: ExactField>(rows: &Whole, row: usize, v: u32) -> F
     number_at(rows, row, v as usize + 1)
 }
 
-/// The number of a variable in the row of a basic one; 0 if the first is not basic, and if the
-/// second is basic or no variable.
+/// The coefficient of the variable `other` in the row in which `basic` is basic. It is 0 if `basic`
+/// is not basic, if `other` is basic, and if `other` is no variable.
 pub(crate) fn entry<F: ExactField>(rows: &Whole, basic: u32, other: u32) -> F
     requires { rows.now.bound ≤ F.limit }
     ensures row { (k : ℕ) → slice_get (dictionary_of rows.now).basic k ≡ Some basic →
@@ -137,8 +137,7 @@ pub(crate) fn entry<F: ExactField>(rows: &Whole, basic: u32, other: u32) -> F
     }
 }
 
-/// The number of a variable in the priced row; 0 for a basic variable, and for a number that is no
-/// variable.
+/// The coefficient of variable `v` in the priced row; 0 if `v` is basic or no variable.
 pub(crate) fn coefficient<F: ExactField>(rows: &Whole, v: u32) -> F
     requires { rows.now.bound ≤ F.limit }
     ensures priced { (k : ℕ) → IsPriced (dictionary_of rows.now) k → ¬ (Contains (dictionary_of rows.now).basic v) →

@@ -87,7 +87,7 @@ fn whole_of<F: ExactField>(alloc: Global, dict: &ExactDict<F>) -> Result<Option<
     Ok(Whole::of_lines(dict.variables(), basic, lines, F::limit()))
 }
 
-/// The body of a first dictionary: integers if they are small, else the fractions.
+/// How a first dictionary is stored: by integers if they are small, else by the fractions.
 pub(crate) fn begun<F: ExactField>(alloc: Global, dict: ExactDict<F>) -> Result<Body<F>, AllocError>
     requires phase { ¬ (InPhaseOne (exact.fraction_dictionary F.value dict)) }
     requires first { dict.upcoming ≡ 1 }
@@ -185,7 +185,7 @@ fn whole_pivot<F: ExactField>(
     }
 }
 
-/// The dictionary after a legal pivot.
+/// How the dictionary after a legal pivot is stored.
 pub(crate) fn pivoted<F: ExactField>(
     alloc: Global,
     body: Body<F>,

@@ -5,15 +5,15 @@ use Rattle.gq_number.specs.Number.{Number, whole}
 use Rattle.lp_form.specs.declared.key.Key.{Key}
 use Rattle.lp_form.specs.Keys.{AreOrdered}
 
--- An affine form: a constant, and for each of its keys a number.
+-- An affine form: a constant, and for each of its keys a number, the coefficient.
 pub record Affine (F : Type 0) : Type 0 where
   pub constant : F
   pub keys : List Key
   -- the numbers, in the order of the keys
   pub numbers : List F
 
--- The keys are distinct and in order, each has its number, and no number is 0. `value` gives the
--- number that a field's value means.
+-- The keys are strictly ascending, each has its number, and none of the numbers is 0. `value` gives
+-- the number that a value of the field `F` means.
 pub record IsForm {F : Type 0} (value : F → Number) (form : Affine F) : Type 0 where
   pub ordered : AreOrdered form.keys
   pub paired : length form.numbers ≡ length form.keys

@@ -7,14 +7,14 @@ use Rattle.std.specs.List.Sorted.{IsStrictlySortedBy}
 use Rattle.gms_tuple.specs.TupleOrder.{tuple_cmp}
 use Rattle.lp_form.specs.declared.key.Key.{Key}
 
--- how two keys compare: by their symbols, and of one symbol by their tuples
+-- the order of two keys: by their symbols' numbers, and if these are equal by their tuples
 abbrev pub key_cmp : Key → Key → Ordering
 key_cmp a b = ordering_then (nat_cmp a.symbol b.symbol) (tuple_cmp a.tuple b.tuple)
 
--- whether two keys are the same
+-- whether two keys are equal
 abbrev pub same_key : Key → Key → Bool
 same_key a b = is_eq (key_cmp a b)
 
--- the keys are distinct and in order: each comes before those after it
+-- the keys are strictly ascending
 abbrev pub AreOrdered : List Key → Type 0
 AreOrdered keys = IsStrictlySortedBy key_cmp keys

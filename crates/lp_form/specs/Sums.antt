@@ -1,4 +1,4 @@
--- Sums of affine forms that grow.
+-- Sums of affine forms, which are extended in place.
 use Rattle.std.specs.Prelude.{◌≡◌, ℕ, true, false, List, [], ◌∷◌, length, Some, None, Result, Ok, Err, if◌then◌else◌}
 use Rattle.std.specs.declared.cmp.Ordering.TheVariants.{Less}
 use Rattle.gq_number.specs.Number.{Number, ◌+ℚ◌}
@@ -10,21 +10,23 @@ use Rattle.lp_form.specs.Affine.{Affine}
 use Rattle.lp_form.specs.Forms.{number_at}
 use Rattle.lp_form.specs.Keys.{key_cmp, same_key}
 
--- the number that keys and their numbers have at a key, or another number if the key is not among
--- them
+-- the number paired with a key in parallel lists of keys and numbers, or `other` if the key is not
+-- listed
 abbrev pub number_or : {F : Type 0} → (F → Number) → Number → List Key → List F → Key → Number
 number_or value other [] numbers key = other
 number_or value other (k ∷ keys) [] key = other
 number_or value other (k ∷ keys) (x ∷ numbers) key =
     if same_key k key then value x else number_or value other keys numbers key
 
--- after a fault of a step a sum is as it was; after out of memory it may be anything
+-- what a fault does to a sum, `before` the addition and `now`: if a step exceeds the limit, it is
+-- unchanged; if out of memory, it may have any value
 abbrev pub IsUnchangedByFault : {F : Type 0} → Affine F → Affine F → FormFault → Type 0
 IsUnchangedByFault before now (fault.Limit key) = now ≡ before
 IsUnchangedByFault before now fault.Memory = Unit {0}
 
--- Numbers at keys, added to others: the sum at each key; or the fault of the first key, in order,
--- at which a step does not fit. Out of memory may occur at any step.
+-- The answer of adding listed numbers, each at its key, to the numbers of a sum, which has `at key`
+-- at each key. Ok: each addition fits, and the results are the totals at the listed keys. Limit:
+-- the first key in order whose addition does not fit. Memory may be the answer at any time.
 abbrev pub Sums : {F : Type 0} → (F → Number) → ℕ → (Key → Number) → List Key → List F → Result (List F) FormFault → Type 0
 Sums value limit at keys numbers (Ok sums) =
     (length sums ≡ length keys) × ((key : Key) → number_or value (at key) keys sums key ≡ at key +ℚ number_at value keys numbers key) × ((key : Key) → sum_fits limit (at key) (number_at value keys numbers key) ≡ true)

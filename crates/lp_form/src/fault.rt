@@ -7,10 +7,12 @@ use std::alloc::{AllocError, AllocFailed};
 use std::fmt;
 use thiserror::Error;
 
-/// Why a form was not made.
+/// Why an operation on forms fails: a number beyond the field's limit, or out of memory.
 #[derive(Debug, Drop, Error)]
 pub enum FormFault {
-    /// The first step that exceeds the field's limit: that of the constant, or that of this key.
+    /// The step that computes the constant (`None`) or the coefficient of this key exceeds the
+    /// field's limit. Of several such steps it is the first: the constant comes first, then the
+    /// keys in order.
     #[error("beyond the field's limit")]
     Limit(Option<Key>),
     /// Out of memory.

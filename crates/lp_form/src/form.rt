@@ -13,17 +13,18 @@ use gq_field::ExactField;
 use std::alloc::{AllocError, Global};
 use std::marker::Model;
 
-/// A constant, and a number that is not 0 for each of finitely many keys, in the order of keys.
+/// An affine form: a constant, and for each of finitely many keys a coefficient that is not 0, in
+/// the order of keys.
 ///
-/// The left side of `cost.. z - 2*x =e= 5;` is the form with the constant 0, the number 1 at `z`
-/// and -2 at `x`. An absent key has the number 0.
+/// The left side of `cost.. z - 2*x =e= 5;` is the form with the constant 0, the coefficient 1 at
+/// `z` and -2 at `x`. A key that the form does not have counts as one with the coefficient 0.
 pub struct Form<F: ExactField> {
     constant: F,
     keys: Vec<Key>,
     numbers: Vec<F>,
 }
 
-// Written out, so that it is proved here alone, and not in each crate that lets one go.
+// Written out, so that it is proved once, and not in each crate that drops one.
 impl<F: ExactField> Drop for Form<F> {
     fn drop(self) {
         let Self {
@@ -45,7 +46,7 @@ impl<F: ExactField> Model for Form<F> {
 }
 
 impl<F: ExactField> Form<F> {
-    /// The form of a constant.
+    /// The form with the constant `v` and without keys.
     pub fn constant(alloc: Global, v: F) -> Form<F>
         ensures constant { result.constant ≡ v }
         ensures keys { result.keys ≡ [] }
@@ -58,7 +59,8 @@ impl<F: ExactField> Form<F> {
         }
     }
 
-    /// The form with the number 1 at one key.
+    /// The form with the constant 0 and the only key `k`, which has the coefficient 1. The error is
+    /// out of memory.
     pub fn column(alloc: Global, k: Key) -> Result<Form<F>, AllocError>
         ensures constant { IfOk result (λ form. F.value form.constant ≡ whole (pos 0)) }
         ensures keys { IfOk result (λ form. form.keys ≡ k ∷ []) }
@@ -76,7 +78,7 @@ impl<F: ExactField> Form<F> {
         })
     }
 
-    /// The number of a key, which is 0 if the form does not have the key.
+    /// The coefficient of the key `k`; 0 if the form does not have the key.
     pub fn get(&self, k: &Key) -> F
         ensures { F.value result ≡ coefficient F.value self.now k.now }
     {
@@ -86,14 +88,14 @@ impl<F: ExactField> Form<F> {
         }
     }
 
-    /// The constant.
+    /// The constant of the form.
     pub fn offset(&self) -> F
         ensures { result ≡ self.now.constant }
     {
         self.constant
     }
 
-    /// The keys, in order.
+    /// The keys of the form, in the order of keys.
     pub fn keys(&self) -> &[Key]
         ensures keys { result.now ≡ self.now.keys }
         ensures form { IsForm F.value self.now }
@@ -101,7 +103,7 @@ impl<F: ExactField> Form<F> {
         self.keys.as_slice()
     }
 
-    /// The numbers, in the order of their keys.
+    /// The coefficients of the form, in the order of their keys.
     pub fn numbers(&self) -> &[F]
         ensures numbers { result.now ≡ self.now.numbers }
         ensures form { IsForm F.value self.now }
@@ -109,7 +111,7 @@ impl<F: ExactField> Form<F> {
         self.numbers.as_slice()
     }
 
-    /// An equal form.
+    /// A copy, equal to this form.
     pub fn copy(&self, alloc: Global) -> Result<Form<F>, AllocError>
         ensures { IfOk result (λ copy. copy ≡ self.now) }
     {
@@ -120,10 +122,11 @@ impl<F: ExactField> Form<F> {
         })
     }
 
-    /// Adds the other form: the constants, and the numbers at each key.
+    /// Adds the form `o` to this form: its constant to the constant, and its coefficient of each
+    /// key to this form's coefficient of the key.
     ///
-    /// If the other's keys all follow those of this form, the cost does not depend on how many
-    /// these are. After a fault the form is as it was.
+    /// After a fault this form is unchanged. If all keys of `o` come after those of this form, the
+    /// time depends on the entries of `o` alone.
     pub fn add_assign(&mut self, alloc: Global, o: &Form<F>) -> Result<(), FormFault>
         ensures value { IsEntrywiseAnswer F.value (of_two (sum_form_step F.limit) F.value self.old o.now)
             (result_map_both (λ _. self.new) (λ fault. fault) result) }
@@ -143,7 +146,8 @@ impl<F: ExactField> Form<F> {
         Ok(())
     }
 
-    /// The sum with the other form: of the constants, and of the numbers at each key.
+    /// The sum of this form and the form `o`: of the constants, and of the coefficients of each
+    /// key.
     pub fn add(&self, alloc: Global, o: &Form<F>) -> Result<Form<F>, FormFault>
         ensures { IsEntrywiseAnswer F.value (of_two (sum_form_step F.limit) F.value self.now o.now) result }
     {
@@ -152,8 +156,11 @@ impl<F: ExactField> Form<F> {
         Ok(sum)
     }
 
-    /// The difference with the other form, which is the sum with the other one negated, with its
-    /// faults.
+    /// This form minus the form `o`: the difference of the constants, and of the coefficients of
+    /// each key.
+    ///
+    /// The call succeeds exactly if the sum of this form and the negated `o` does; if not, it
+    /// returns the fault of that sum.
     pub fn sub(&self, alloc: Global, o: &Form<F>) -> Result<Form<F>, FormFault>
         ensures { IsEntrywiseAnswer F.value (of_two (difference_step F.limit) F.value self.now o.now) result }
     {
@@ -161,14 +168,15 @@ impl<F: ExactField> Form<F> {
         self.add(alloc, &negated)
     }
 
-    /// The form with each number times `v`.
+    /// This form multiplied by `v`: the constant and each coefficient times `v`.
     pub fn scale(&self, alloc: Global, v: F) -> Result<Form<F>, FormFault>
         ensures { IsEntrywiseAnswer F.value (by_number (product_form_step F.limit) F.value self.now (F.value v)) result }
     {
         self.after(alloc, Operation::Times(v))
     }
 
-    /// The form with each number over `v`, which is not 0.
+    /// This form divided by `v`, which is required not to be 0: the constant and each coefficient
+    /// divided by `v`.
     pub fn divide(&self, alloc: Global, v: F) -> Result<Form<F>, FormFault>
         requires { F.value v ≢ whole (pos 0) }
         ensures { IsEntrywiseAnswer F.value (by_number (quotient_step F.limit) F.value self.now (F.value v)) result }

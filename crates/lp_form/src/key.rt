@@ -16,7 +16,7 @@ pub struct Key {
     pub tuple: Tuple,
 }
 
-// Written out, so that it is proved here alone, and not in each crate that lets one go.
+// Written out, so that it is proved once, and not in each crate that drops one.
 impl Drop for Key {
     fn drop(self) {
         let Self {
@@ -27,7 +27,7 @@ impl Drop for Key {
 }
 
 impl Key {
-    /// An equal key.
+    /// A copy, equal to this key.
     pub fn copy(&self, alloc: Global) -> Result<Key, AllocError>
         ensures { IfOk result (λ copy. copy ≡ self.now) }
     {

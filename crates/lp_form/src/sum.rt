@@ -21,10 +21,10 @@ use std::mem;
 /// A sum with at most this many entries is stored as a form, whatever is added.
 const FEW: usize = 16;
 
-/// A sum of affine forms. Its view is the form that it equals.
+/// A sum of affine forms. Contracts view it as the form that it equals.
 ///
-/// Adding a form takes steps as the number of its entries times the logarithm of the sum's. If all
-/// its entries follow those of the sum, it takes steps as the number of its entries.
+/// Adding a form of n entries to a sum of m entries takes steps in proportion to n log m, or to n
+/// if all keys of the form come after those of the sum.
 #[derive(Drop)]
 pub struct FormSum<F: ExactField> {
     kept: Kept<F>,
@@ -49,7 +49,7 @@ impl<F: ExactField> Model for FormSum<F> {
 }
 
 impl<F: ExactField> FormSum<F> {
-    /// The sum of no forms.
+    /// The sum of no forms: the constant 0, and no keys.
     pub fn new(alloc: Global) -> FormSum<F>
         ensures constant { F.value result.constant ≡ whole (pos 0) }
         ensures keys { result.keys ≡ [] }
@@ -59,7 +59,7 @@ impl<F: ExactField> FormSum<F> {
         }
     }
 
-    /// The number of a key, which is 0 if the sum does not have the key.
+    /// The coefficient of the key `k` in the sum; 0 if the sum does not have the key.
     pub fn get(&self, k: &Key) -> F
         ensures { F.value result ≡ coefficient F.value self.now k.now }
     {
@@ -69,7 +69,7 @@ impl<F: ExactField> FormSum<F> {
         }
     }
 
-    /// The constant.
+    /// The constant of the sum.
     pub fn offset(&self) -> F
         ensures constant { result ≡ self.now.constant }
         ensures form { IsForm F.value self.now }
@@ -83,9 +83,11 @@ impl<F: ExactField> FormSum<F> {
         }
     }
 
-    /// Adds a form: its constant, and its number at each key.
+    /// Adds the form `o` to this sum: its constant to the constant, and its coefficient of each key
+    /// to the sum's coefficient of the key.
     ///
-    /// After a step that does not fit the sum is as it was.
+    /// If a step exceeds the field's limit, the sum is unchanged. If memory runs out, the sum may
+    /// have any value.
     pub fn add_assign(&mut self, alloc: Global, o: &Form<F>) -> Result<(), FormFault>
         ensures value { IsEntrywiseAnswer F.value (of_two (sum_form_step F.limit) F.value self.old o.now)
             (result_map_both (λ _. self.new) (λ fault. fault) result) }
@@ -99,7 +101,8 @@ impl<F: ExactField> FormSum<F> {
         self.add_among(alloc, o)
     }
 
-    /// The form that the sum equals: the same constant, and the same number at each key.
+    /// The form that the sum equals: it has the sum's constant, and the sum's coefficient of each
+    /// key. The error is out of memory.
     pub fn into_form(self, alloc: Global) -> Result<Form<F>, AllocError>
         ensures constant { IfOk result (λ form. F.value form.constant ≡ F.value self.constant) }
         ensures numbers { IfOk result (λ form. (key : Key) → coefficient F.value form key ≡ coefficient F.value self key) }

@@ -1,4 +1,4 @@
--- The first dictionary, row by row; what the functions promise.
+-- The first dictionary, row by row, as the crate's functions make it.
 use Rattle.std.specs.Prelude.{◌≡◌, Bool, ℕ, ◌+◌, ◌<◌, ◌≤◌, List, [], ◌∷◌, length, slice_index_or}
 use Rattle.std.specs.List.{All}
 use Rattle.gq_number.specs.Number.{Number}
@@ -7,23 +7,26 @@ use Rattle.lp_core.specs.Dictionary.{first_row, no_row}
 use Rattle.lp_fraction_dict.specs.declared.row.Entry.{Entry}
 use Rattle.lp_fraction_dict.specs.Rows.{IsRow, number_in}
 
--- the numbers of variables ascend from the low one and stay below the high one
+-- the entries ascend by variable, from number `low` on and below `high`
 abbrev pub InOrder : ℕ → ℕ → List (ℕ × Number) → Type 0
 InOrder low high [] = Unit {0}
 InOrder low high (e ∷ es) = (low ≤ e.0) × (e.0 < high) × InOrder (e.0 + 1) high es
 
--- A row that is filled up to a column: it has these numbers there.
+-- The stored row `made` has entries below this column alone, and there the numbers of `target`.
 pub record IsFilled {F : Type 0} (value : F → Number) (target : ℕ → Number) (column : ℕ) (made : List (Entry F)) : Type 0 where
   pub is_row : IsRow value 0 column made
   pub numbers : (c : ℕ) → c < column → number_in value made c ≡ target c
 
--- A standard form whose rows have entries in order, and that is not too large.
+-- A standard form whose rows have entries in order, and that has at most 1,500 rows and 3,000
+-- variables.
 pub record IsInForm (s : form.Standard) : Type 0 where
   pub rows : All (λ (row : form.StandardRow). InOrder 1 (length s.objective + 1) row.entries) s.rows
   pub rows_few : length s.rows ≤ 1500
   pub variables_few : length s.objective ≤ 3000
 
--- the first n rows are those of the first dictionary; the first slack has this number
+-- The stored rows `made` are the first n rows of the first dictionary of a standard form with these
+-- `rows`. `needed` says whether phase 1 is needed, and `slack` is the number of the first row's
+-- slack variable.
 pub record AreFirst {F : Type 0} (value : F → Number) (needed : Bool) (slack : ℕ) (rows : List form.StandardRow) (made : List (List (Entry F))) (n : ℕ) : Type 0 where
   pub sized : length made ≡ n
   pub each : (k : ℕ) → k < n → IsFilled value (first_row needed (slack + k) (slice_index_or rows k no_row)) (slack + k + 2) (slice_index_or made k [])

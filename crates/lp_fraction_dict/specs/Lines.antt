@@ -1,5 +1,5 @@
--- The rows of a dictionary followed by the objective, before and after an exchange; what the
--- functions promise.
+-- The rows of a dictionary followed by the objective, before and after an exchange. All columns are
+-- below `high`.
 use Rattle.std.specs.Prelude.{◌≡◌, ◌≢◌, ◌⊎◌, ℕ, ◌+◌, ◌<◌, ◌==◌, not, List, [], map, filter, length, slice_index_or, Result, IfOk, IfErr, Vec, if◌then◌else◌}
 use Rattle.std.specs.declared.alloc.Global.{Global}
 use Rattle.gq_number.specs.Number.{Number}
@@ -15,61 +15,69 @@ use Rattle.lp_fraction_dict.specs.declared.fault.LineFault.{LineFault}
 use Rattle.lp_fraction_dict.specs.declared.fault.LineFault.TheVariants as line_fault_of
 use Rattle.lp_fraction_dict.specs.Rows.{number_in, StepsFit, IsLessened, IsFirstMisfit, IsDivided, IsFirstUndivided}
 
--- the entries of rows
+-- the entries of each of these rows
 abbrev pub entries_of_rows : {F : Type 0} → List (Vec (Entry F) Global) → List (List (Entry F))
 entries_of_rows rows = map (λ row. row.items) rows
 
--- the row of this place, or the objective, which follows the rows
+-- row i, or the objective if i is past the last row
 abbrev pub line : {F : Type 0} → List (List (Entry F)) → List (Entry F) → ℕ → List (Entry F)
 line rows objective i = slice_index_or rows i objective
 
--- the number of a part in the name of a step
+-- the number that a step's name has for a product or quotient (0) and for a difference (1)
 abbrev pub part_number : Part → ℕ
 part_number part.Product = 0
 part_number part.Difference = 1
 
--- the fault of a row, with the row's place
+-- the fault of row i as a fault of the rows, which says in which row it is
 abbrev pub line_fault : ℕ → RowFault → LineFault
 line_fault i (fault.Limit column p) = line_fault_of.Limit i column p
 line_fault i fault.Memory = line_fault_of.Memory
 
--- a step of a row that does not fit, at its place and column; out of memory makes no claim
+-- Q holds of the row, the column and the part of the step that does not fit; out of memory makes no
+-- claim
 abbrev pub InLine : (ℕ → ℕ → Part → Type 0) → LineFault → Type 0
 InLine Q (line_fault_of.Limit i column p) = Q i column p
 InLine Q line_fault_of.Memory = Unit {0}
 
--- the result of a function on rows: a property of its value, or of the step that does not fit
+-- Ok: P holds of the value. Err: Q holds of the row, the column and the part of the step that does
+-- not fit; out of memory makes no claim.
 abbrev pub OnLine : {T : Type 0} → (T → Type 0) → (ℕ → ℕ → Part → Type 0) → Result T LineFault → Type 0
 OnLine P Q r = IfOk r P × IfErr r (InLine Q)
 
--- the stop at a fault in a pivot of this number
+-- why the exchange of this pivot stops at a fault: the name of the step that does not fit, with
+-- rows from 1, or out of memory
 abbrev pub stop_of : ℕ → LineFault → Stop
 stop_of pivot (line_fault_of.Limit i column p) = stop.Limit (Exchange pivot (i + 1) column (part_number p))
 stop_of pivot line_fault_of.Memory = stop.Memory
 
--- each step on a row fits
+-- each step fits under the limit that subtracts from a row its number at `column` times the pivot
+-- row: at every column c the product and the difference
 abbrev pub LineFits : {F : Type 0} → (F → Number) → ℕ → ℕ → List (Entry F) → List (Entry F) → Type 0
 LineFits value limit column pivot_row row =
     (c : ℕ) → StepsFit limit (number_in value row c) (number_in value row column) (number_in value pivot_row c)
 
--- each row has lost the multiple of the pivot row that makes its number at the column 0
+-- Each row of `after` is that of `before` less its number at `column` times the pivot row, and each
+-- step of this fits. The columns of the rows are below `high`.
 pub record AreExchanged {F : Type 0} (value : F → Number) (limit high column : ℕ) (pivot_row : List (Entry F)) (before after : List (List (Entry F))) : Type 0 where
   pub sized : length after ≡ length before
   pub each : (i : ℕ) → i < length before → IsLessened value limit high (slice_index_or before i []) (number_in value (slice_index_or before i []) column) pivot_row (slice_index_or after i [])
 
--- the first step that does not fit is in the row of this place
+-- The first step that does not fit, as from each row its number at `column` times the pivot row is
+-- subtracted, is in row i at the column `at`; p says whether it is a product or a difference.
 pub record IsFirstLine {F : Type 0} (value : F → Number) (limit high column : ℕ) (pivot_row : List (Entry F)) (before : List (List (Entry F))) (i at : ℕ) (p : Part) : Type 0 where
   pub within : i < length before
   pub fit : (j : ℕ) → j < i → LineFits value limit column pivot_row (slice_index_or before j [])
   pub here : IsFirstMisfit value limit high (slice_index_or before i []) (number_in value (slice_index_or before i []) column) pivot_row at p
 
--- The exchange at a row and a column: that row is divided by its number there, and every other
--- loses its multiple of the divided one.
+-- The exchange of a row and a column, whose steps all fit: the row at `place` is divided by its
+-- number at `column`, and from every other row its number at `column` times the divided row is
+-- subtracted. The columns are below `high`.
 pub record IsTurned {F : Type 0} (value : F → Number) (limit high : ℕ) (before : ℕ → List (Entry F)) (place column : ℕ) (after : ℕ → List (Entry F)) : Type 0 where
   pub divided : IsDivided value limit high (before place) (number_in value (before place) column) (after place)
   pub others : (i : ℕ) → i ≢ place → IsLessened value limit high (before i) (number_in value (before i) column) (after place) (after i)
 
--- The first step of an exchange that does not fit is in a row other than that of the place.
+-- The first step of an exchange that does not fit is in row i, another than the row at `place`, at
+-- the column `at`; p says whether it is a product or a difference.
 pub record IsStoppedInOtherLine {F : Type 0} (value : F → Number) (limit high : ℕ) (before : ℕ → List (Entry F)) (place column i at : ℕ) (p : Part) : Type 0 where
   pub pivot_row : List (Entry F)
   pub divided : IsDivided value limit high (before place) (number_in value (before place) column) pivot_row
@@ -77,16 +85,18 @@ pub record IsStoppedInOtherLine {F : Type 0} (value : F → Number) (limit high 
   pub fit : (j : ℕ) → j < i → j ≢ place → LineFits value limit column pivot_row (before j)
   pub here : IsFirstMisfit value limit high (before i) (number_in value (before i) column) pivot_row at p
 
--- the first step of an exchange that does not fit
+-- the first step of an exchange that does not fit is in row i at the column `at`: a quotient of the
+-- row at `place`, or, if these all fit, a product or difference of another row
 abbrev pub IsFirstTurn : {F : Type 0} → (F → Number) → ℕ → ℕ → (ℕ → List (Entry F)) → ℕ → ℕ → ℕ → ℕ → Part → Type 0
 IsFirstTurn value limit high before place column i at p =
     ((i ≡ place) × IsFirstUndivided value limit high (before place) (number_in value (before place) column) at p)
     ⊎ IsStoppedInOtherLine value limit high before place column i at p
 
--- a row without the entry of a column
+-- a row without its entry in this column
 abbrev pub without : {F : Type 0} → ℕ → List (Entry F) → List (Entry F)
 without {F} column row = filter (λ (e : Entry F). not (e.column == column)) row
 
--- a row after an exchange: without the column of variable 0 if that leaves
+-- a row after an exchange in which the variable `leave` leaves: if that is variable 0, its entry in
+-- column 1 is removed
 abbrev pub kept_after : {F : Type 0} → ℕ → List (Entry F) → List (Entry F)
 kept_after leave row = if leave == 0 then without 1 row else row

@@ -7,8 +7,8 @@ use Rattle.lp_fraction_dict.specs.declared.row.Entry.{Entry}
 use Rattle.lp_fraction_dict.specs.Rows.{IsRow, number_in}
 use Rattle.lp_fraction_dict.specs.Lines.{line}
 
--- The basic variables, a row for each, and the objective, by entries that are not 0; and the number
--- that the next pivot has in the names of its steps.
+-- A stored dictionary: the basic variable of each row, the rows and the objective by entries that
+-- are not 0, and `upcoming`, the number that the next pivot has in the names of its steps.
 pub record FractionTableau (F : Type 0) : Type 0 where
   -- the greatest number of a variable
   pub variables : ℕ
@@ -17,12 +17,12 @@ pub record FractionTableau (F : Type 0) : Type 0 where
   pub objective : List (Entry F)
   pub upcoming : ℕ
 
--- the tableau with these rows
+-- the tableau with these fields
 abbrev pub fraction_tableau : {F : Type 0} → ℕ → List ℕ → List (List (Entry F)) → List (Entry F) → ℕ → FractionTableau F
 fraction_tableau variables basic rows objective upcoming =
     record { variables = variables; basic = basic; rows = rows; objective = objective; upcoming = upcoming }
 
--- the dictionary of a tableau; the row past the last is the objective
+-- the dictionary that a tableau stores; the row after the last is the objective
 abbrev pub fraction_dictionary : {F : Type 0} → (F → Number) → FractionTableau F → Dictionary
 fraction_dictionary value t =
     record {
@@ -31,8 +31,9 @@ fraction_dictionary value t =
       numbers = λ k c. number_in value (line t.rows t.objective k) c;
     }
 
--- The invariant: there is a row for each basic variable, all entries are in order and at columns of
--- the dictionary, and the dictionary is one of a program.
+-- The invariant of a tableau: a row for each basic variable, all entries in order and at columns of
+-- the dictionary, no more rows than variables, column numbers of at most 32 bits, and the invariant
+-- of a program's dictionaries.
 pub record IsTableau {F : Type 0} (value : F → Number) (t : FractionTableau F) : Type 0 where
   pub sized : t.variables + 2 < 2 ^ 32
   pub few : length t.basic ≤ t.variables
@@ -41,7 +42,7 @@ pub record IsTableau {F : Type 0} (value : F → Number) (t : FractionTableau F)
   pub objective : IsRow value 0 (t.variables + 2) t.objective
   pub proper : IsProper (fraction_dictionary value t)
 
--- the place of a variable among the basic ones; none if it is not basic
+-- Some k: variable v is basic in row k. None: it is not basic.
 abbrev pub IsPlace : List ℕ → ℕ → Option ℕ → Type 0
 IsPlace basic v (Some k) = slice_get basic k ≡ Some v
 IsPlace basic v None = ¬ (Contains basic v)

@@ -1,4 +1,4 @@
-//! The place that comes first: the least constant, and the least ratio.
+//! The choice of the leaving variable: by the least constant, or by the least ratio.
 ghost use Rattle.std.specs.Prelude.{◌≡◌, ◌↔◌, ℕ, pos, [], length, slice_index_or, IsTrue};
 ghost use Rattle.gq_number.specs.Number.{whole};
 ghost use Rattle.gq_number.specs.Order.{◌<ℚ◌};
@@ -10,7 +10,7 @@ use crate::row::{Entry, number_of_row};
 use gq_field::ExactField;
 use std::cmp::Ordering;
 
-/// A basic variable that may leave, and the number by which the least is chosen.
+/// A basic variable that may leave, and its measure: the constant or the ratio of its row.
 #[derive(Clone, Copy)]
 pub(crate) struct Candidate<F> {
     pub(crate) measure: F,
@@ -77,8 +77,8 @@ pub(crate) fn least_constant<F: ExactField>(
 }
 
 /// The basic variable of a row with the least ratio of its constant to its number at a column,
-/// among rows where that number is above 0, and of several such the least. None if there is no such
-/// row. `Err` has the first place whose ratio does not fit.
+/// among rows where that number is above 0, and of several such the least. `None` if there is no
+/// such row. The error is the first row, from 0, whose ratio does not fit.
 pub(crate) fn least_ratio<F: ExactField>(
     rows: &[Vec<Entry<F>>],
     basic: &[u32],

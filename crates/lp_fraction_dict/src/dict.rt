@@ -30,11 +30,11 @@ use lp_std::{Standard, Stop};
 use std::alloc::{AllocError, Global};
 use std::marker::Model;
 
-/// A dictionary by fractions: an equation for each basic variable, and the objective (Chvatal,
-/// Linear Programming, chapters 2 and 3).
+/// A dictionary whose numbers are stored as fractions: an equation for each basic variable, and the
+/// objective (Chvatal, Linear Programming, chapters 2 and 3).
 ///
-/// Each row stores only what is not 0, as reduced fractions. Variable 0 is the artificial variable
-/// of phase 1.
+/// Each row stores only the numbers other than 0, as reduced fractions. Variable 0 is the
+/// artificial variable of phase 1.
 #[derive(Drop)]
 pub struct ExactDict<F: ExactField> {
     variables: u32,
@@ -82,8 +82,10 @@ fn first_above<F: ExactField>(row: &[Entry<F>]) -> Option<u32>
 }
 
 impl<F: ExactField> ExactDict<F> {
-    /// The dictionary with these rows and this objective, which have to be in order. `upcoming` is
-    /// the number of the next pivot in the names of its steps.
+    /// The dictionary with these rows and this objective; `basic` has the basic variable of each
+    /// row. The entries of a row are by ascending column, and all together satisfy the invariant
+    /// that `keeps` states. `variables` is the greatest number of a variable. `upcoming` is the
+    /// number of the next pivot, from 1, by which the steps of that pivot are named.
     pub fn of_rows(
         variables: u32,
         basic: Vec<u32>,
@@ -103,45 +105,48 @@ impl<F: ExactField> ExactDict<F> {
         }
     }
 
-    /// The invariant of each such dictionary, a law: a row for each basic variable, all entries in
-    /// order, and the dictionary is one of a program.
+    /// A law: each dictionary satisfies its invariant. It has a row for each basic variable, the
+    /// entries of each row are by ascending column, and every basic variable occurs in its own row
+    /// alone, with coefficient 1.
     pub fn keeps(&self)
         ensures { IsTableau F.value self.now }
     {
         let _ = &self.rows;
     }
 
-    /// The greatest number of a variable: the variables are 0 and those up to it.
+    /// The greatest number of a variable. The variables have the numbers from 0 to this one.
     pub fn variables(&self) -> u32
         ensures { result ≡ self.now.variables }
     {
         self.variables
     }
 
-    /// The basic variable of each row.
+    /// The number of the basic variable of each row, in the order of the rows.
     pub fn basic(&self) -> &[u32]
         ensures { result.now ≡ self.now.basic }
     {
         self.basic.as_slice()
     }
 
-    /// The entries of each row, by ascending column.
+    /// The entries of each row, by ascending column. A coefficient or a constant that is 0 has no
+    /// entry.
     pub fn rows(&self) -> &[Vec<Entry<F>>]
         ensures { entries_of_rows result.now ≡ self.now.rows }
     {
         self.rows.as_slice()
     }
 
-    /// The entries of the objective, by ascending column.
+    /// The entries of the objective, by ascending column. A coefficient or a constant that is 0 has
+    /// no entry.
     pub fn objective(&self) -> &[Entry<F>]
         ensures { result.now ≡ self.now.objective }
     {
         self.objective.as_slice()
     }
 
-    /// The first dictionary of the standard form of a well-formed program: its slacks are basic. If
-    /// some right side is below 0, variable 0 occurs in each row, and the opening pivot is
-    /// required. The only error is out of memory.
+    /// The first dictionary of the standard form of a well-formed program, in which the slacks are
+    /// basic. If some right side is below 0, variable 0 occurs in each row, and the opening pivot,
+    /// in which it enters, is required. The only error is out of memory.
     pub fn of(alloc: Global, s: &Standard<F>) -> Result<ExactDict<F>, AllocError>
         requires { (lp : Lp F) × IsWellFormed F.value lp × (standard_value F.value s.now ≡ standard_form F.value lp) }
         ensures first { IfOk result (λ d. fraction_dictionary F.value d ≡ first_dictionary (standard_value F.value s.now)) }
@@ -167,7 +172,7 @@ impl<F: ExactField> ExactDict<F> {
         place_of(self.basic.as_slice(), v).is_some()
     }
 
-    /// The constant of a variable's row; 0 for a variable that is not basic.
+    /// The constant of the row in which variable `v` is basic; 0 if it is not basic.
     pub fn amount(&self, v: u32) -> F
         ensures basic { (k : ℕ) → slice_get self.now.basic k ≡ Some v → F.value result ≡ constant_at (fraction_dictionary F.value self.now) k }
         ensures other { ¬ (Contains self.now.basic v) → F.value result ≡ whole (pos 0) }
@@ -178,8 +183,8 @@ impl<F: ExactField> ExactDict<F> {
         }
     }
 
-    /// The number of a variable in the row of a basic one; 0 if the first is not basic, and if the
-    /// second is basic or no variable.
+    /// The coefficient of the variable `other` in the row in which `basic` is basic. It is 0 if
+    /// `basic` is not basic, if `other` is basic, and if `other` is no variable.
     pub fn entry(&self, basic: u32, other: u32) -> F
         ensures row { (k : ℕ) → slice_get self.now.basic k ≡ Some basic → ¬ (Contains self.now.basic other) → F.value result ≡
             entry_at (fraction_dictionary F.value self.now) k other }
@@ -199,8 +204,9 @@ impl<F: ExactField> ExactDict<F> {
         }
     }
 
-    /// The number of a variable in the priced row: that of variable 0 in phase 1, then the
-    /// objective. It is 0 for a basic variable, and for a number that is no variable.
+    /// The coefficient of variable `v` in the priced row, which is the row of variable 0 while
+    /// variable 0 is basic, else the objective. The coefficient is 0 if `v` is basic or no
+    /// variable.
     pub fn coefficient(&self, v: u32) -> F
         ensures priced { (k : ℕ) → IsPriced (fraction_dictionary F.value self.now) k → ¬ (Contains self.now.basic v) →
             F.value result ≡ entry_at (fraction_dictionary F.value self.now) k v }
@@ -219,8 +225,9 @@ impl<F: ExactField> ExactDict<F> {
         }
     }
 
-    /// The opening pivot of Bland's choice, if one is required: variable 0 enters, and of the
-    /// variables with the least constant, which is below 0, the least leaves.
+    /// The opening pivot of Bland's choice: variable 0 enters. Of the basic variables whose rows
+    /// have the least constant, which is below 0, the one with the least number leaves. `None` if
+    /// no constant is below 0.
     pub fn opening(&self) -> Option<Pivot>
         ensures { MatchOption result (¬ (OpeningIsRequired (fraction_dictionary F.value self.now)))
             (λ p. ((k : ℕ) × IsOpening (fraction_dictionary F.value self.now) p k) ×
@@ -236,7 +243,9 @@ impl<F: ExactField> ExactDict<F> {
         }
     }
 
-    /// The least variable that improves; none exactly where there is none.
+    /// The least variable that improves, that is, has a coefficient above 0 in the priced row and
+    /// is neither basic nor variable 0; `None` exactly if none improves. The priced row is that of
+    /// variable 0 while this is basic, else the objective.
     pub fn entering(&self) -> Option<u32>
         requires { ¬ (OpeningIsRequired (fraction_dictionary F.value self.now)) }
         ensures { MatchOption result ((v : ℕ) → ¬ (Improves (fraction_dictionary F.value self.now) v))
@@ -248,8 +257,9 @@ impl<F: ExactField> ExactDict<F> {
         }
     }
 
-    /// The variable that improves with the greatest coefficient in the priced row, and of several
-    /// such the least. None exactly if nothing improves. It passes over that row once.
+    /// The variable that improves with the greatest coefficient in the priced row (that of variable
+    /// 0 while this is basic, else the objective), and of several such the least; `None` exactly if
+    /// none improves. It visits that row once.
     pub fn greatest(&self) -> Option<u32>
         requires { ¬ (OpeningIsRequired (fraction_dictionary F.value self.now)) }
         ensures { MatchOption result ((v : ℕ) → ¬ (Improves (fraction_dictionary F.value self.now) v)) (HasGreatest (fraction_dictionary F.value self.now)) }
@@ -260,10 +270,11 @@ impl<F: ExactField> ExactDict<F> {
         }
     }
 
-    /// The least of the variables that tie for leaving when `enter` enters. None exactly if no row
-    /// limits it.
+    /// The variable that leaves when `enter` enters: the least of those that tie in the ratio test.
+    /// `None` exactly if no row limits `enter`.
     ///
-    /// `Limit` has the first ratio that does not fit. No other stop occurs.
+    /// The error `Limit` has the first ratio that is beyond the limit of the field. No other error
+    /// occurs.
     pub fn leaving(&self, enter: u32) -> Result<Option<u32>, Stop>
         requires { Improves (fraction_dictionary F.value self.now) enter }
         ensures fits { IfOk result (λ _. AllFit (ratio_steps F.limit self.now.upcoming (fraction_dictionary F.value self.now) enter)) }
@@ -282,12 +293,13 @@ impl<F: ExactField> ExactDict<F> {
         }
     }
 
-    /// The dictionary after a legal pivot, in which `p.enter` is basic in the row of `p.leave`.
-    /// Variable 0 is dropped when it leaves. Rows without the entering variable are unchanged.
+    /// The dictionary after a legal pivot, in which `p.enter` is basic in the row of `p.leave`. If
+    /// variable 0 leaves, it is removed. Rows without the entering variable are unchanged.
     ///
-    /// `Limit` has the first step that does not fit: first those of the leaving variable's row,
-    /// then those of the other rows in order, and those of the objective at the end. `Memory` means
-    /// out of memory. After either the dictionary is lost. `Crossed` does not occur.
+    /// The error `Limit` has the first step whose number is beyond the limit of the field. The
+    /// steps are in this order: those of the leaving variable's row, those of the other rows in
+    /// their order, and those of the objective. `Memory` means out of memory, and `Crossed` does
+    /// not occur. After an error the dictionary is lost.
     pub fn pivot(self, alloc: Global, p: Pivot) -> Result<ExactDict<F>, Stop>
         requires { (k : ℕ) × IsLegal (fraction_dictionary F.value self) p k }
         ensures exchanged { IfOk result (λ after. (k : ℕ) → slice_get self.basic k ≡ Some p.leave →
@@ -328,7 +340,8 @@ impl<F: ExactField> ExactDict<F> {
         })
     }
 
-    /// The value of each variable when the nonbasic ones are 0. The only error is out of memory.
+    /// The value of each variable, by its number, when the nonbasic ones are 0. The only error is
+    /// out of memory.
     pub fn values(&self, alloc: Global) -> Result<Vec<F>, AllocError>
         ensures { IfOk result (λ list. map F.value list.items ≡ (last_of (fraction_dictionary F.value self.now)).values) }
     {
@@ -336,8 +349,9 @@ impl<F: ExactField> ExactDict<F> {
         by_variable(alloc, self.rows.as_slice(), self.basic.as_slice(), count, 0)
     }
 
-    /// The coefficient of each variable in the priced row; 0 for a basic one. The only error is out
-    /// of memory.
+    /// The coefficient of each variable, by its number, in the priced row; 0 for a basic variable.
+    /// The priced row is the row of variable 0 while variable 0 is basic, else the objective. The
+    /// only error is out of memory.
     pub fn costs(&self, alloc: Global) -> Result<Vec<F>, AllocError>
         ensures { IfOk result (λ list. map F.value list.items ≡ (last_of (fraction_dictionary F.value self.now)).costs) }
     {
@@ -350,8 +364,9 @@ impl<F: ExactField> ExactDict<F> {
         Ok(costs)
     }
 
-    /// The change of each variable when this one rises by 1; empty without one. The only error is
-    /// out of memory.
+    /// The change of each variable, by its number, if the nonbasic variable `enter` rises by 1 and
+    /// the other nonbasic ones stay; an empty list if `enter` is `None`. The only error is out of
+    /// memory.
     pub fn ray(&self, alloc: Global, enter: Option<u32>) -> Result<Vec<F>, AllocError>
         requires { IsDone (fraction_dictionary F.value self.now) enter }
         ensures { IfOk result (λ list. map F.value list.items ≡ (last_with (fraction_dictionary F.value self.now) enter).changes) }

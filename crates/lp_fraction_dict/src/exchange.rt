@@ -67,8 +67,10 @@ fn put_row<F: ExactField>(
     mem::replace(old, row)
 }
 
-/// The exchange: the row at a place is divided by its number at a column, and each other row and
-/// the objective lose the multiple of it that makes their number there 0.
+/// The exchange: the row at `place` is divided by its number at `column`, and from each other row
+/// and the objective the multiple of it is subtracted that makes their number there 0.
+///
+/// The error is the first step that does not fit, or out of memory.
 pub(crate) fn turn<F: ExactField>(
     alloc: Global,
     rows: &mut Vec<Vec<Entry<F>>>,

@@ -1,4 +1,4 @@
-//! Why a row, or the rows of a dictionary, were not made.
+//! Why a row, or the rows of a dictionary, could not be made.
 ghost use Rattle.std.specs.Prelude.{◌≡◌, ◌+◌, ◌^◌, ◌<◌};
 ghost use Rattle.lp_fraction_dict.specs.declared.fault.RowFault.TheVariants.{Memory};
 ghost use Rattle.lp_fraction_dict.specs.Lines.{part_number, line_fault, InLine, stop_of};
@@ -7,7 +7,7 @@ use lp_core::StepName;
 use lp_std::Stop;
 use std::alloc::{AllocError, AllocFailed};
 
-/// Which of the two steps on a number does not fit.
+/// Which of the two steps on a number does not fit under the limit.
 #[derive(Clone, Copy)]
 pub(crate) enum Part {
     /// A product or a quotient.
@@ -17,7 +17,7 @@ pub(crate) enum Part {
 }
 
 impl Part {
-    /// The number of the part in the name of a step.
+    /// The number of this part in the name of a step.
     pub(crate) fn number(self) -> u8
         ensures { result ≡ part_number self }
     {
@@ -28,17 +28,17 @@ impl Part {
     }
 }
 
-/// Why a row was not made.
+/// Why a row could not be made.
 #[derive(Drop)]
 pub(crate) enum RowFault {
-    /// A step does not fit under the limit of the field: the first such one, at this column.
+    /// The first step that does not fit under the limit of the field, by its column.
     Limit(u32, Part),
     /// Out of memory.
     Memory,
 }
 
 impl RowFault {
-    /// The fault, in the row that has this place; the objective's is after the last.
+    /// This fault in row `line`; the objective has the number after the last row.
     pub(crate) fn in_line(self, line: usize) -> LineFault
         ensures { result ≡ line_fault line self }
     {
@@ -68,14 +68,14 @@ impl<T: Drop> From<AllocFailed<T>> for RowFault {
 /// Why the rows of a dictionary were not exchanged.
 #[derive(Drop)]
 pub(crate) enum LineFault {
-    /// A step does not fit: the first such one, in the row that has this place and at this column.
+    /// The first step that does not fit, by its row, from 0, and its column.
     Limit(usize, u32, Part),
     /// Out of memory.
     Memory,
 }
 
 impl LineFault {
-    /// The stop at the fault, in a pivot of this number.
+    /// The fault as a `Stop`, in the exchange of the pivot with this number.
     pub(crate) fn stop(self, pivot: u64) -> Stop
         requires { InLine (λ i at p. i + 1 < 2 ^ 32) self }
         ensures { result ≡ stop_of pivot self }

@@ -57,7 +57,8 @@ fn row_with_slack<F: ExactField>(
     Ok(made)
 }
 
-/// The rows with their slacks; the first slack has this number.
+/// The rows of the first dictionary, each with its slack variable. `slack` is the first row's, and
+/// `needed` says whether phase 1 is needed.
 pub(crate) fn rows_with_slacks<F: ExactField>(
     alloc: Global,
     rows: &[StdRow<F>],

@@ -21,7 +21,8 @@ pub fn zeros<F: ExactField>(alloc: Global, count: usize) -> Result<Vec<F>, Alloc
     Ok(list)
 }
 
-/// For each of `count` variables the number of its row at a column; 0 if it is not basic.
+/// For each of `count` variables the number, at `column`, of the row in which it is basic; 0 if it
+/// is not basic.
 pub(crate) fn by_variable<F: ExactField>(
     alloc: Global,
     rows: &[Vec<Entry<F>>],
@@ -42,7 +43,7 @@ pub(crate) fn by_variable<F: ExactField>(
     Ok(list)
 }
 
-/// For each of `count` variables its number in a row.
+/// For each of `count` variables its coefficient in a row.
 pub(crate) fn by_column<F: ExactField>(
     alloc: Global,
     row: &[Entry<F>],
@@ -70,8 +71,10 @@ fn negate<F: ExactField>(list: &mut [F])
     }
 }
 
-/// How each variable changes when one nonbasic variable rises by 1 and the others stay. `numbers`
-/// has the coefficients of that variable in the rows of all variables.
+/// The change of each variable if `enter`, which is not basic, rises by 1 and the other nonbasic
+/// ones stay. `numbers` has for each variable the coefficient of `enter` in the row in which that
+/// variable is basic, or 0 if it is not basic. The change of `enter` is 1, and that of another
+/// variable is its number in `numbers`, negated.
 pub fn changes<F: ExactField>(mut numbers: Vec<F>, enter: u32) -> Vec<F>
     requires { enter < length numbers.items }
     ensures { AreChanges F.value numbers.items enter result.items }

@@ -9,12 +9,12 @@ use gq_field::ExactField;
 use std::alloc::{AllocError, Global};
 use std::cmp::Ordering;
 
-/// An entry of a row: column 0 is the constant, and variable v is column v + 1.
+/// An entry of a row: the constant in column 0, or the coefficient of variable v in column v + 1.
 #[derive(Clone, Copy)]
 pub struct Entry<F> {
-    /// The column.
+    /// The column: 0 for the constant, v + 1 for variable v.
     pub column: u32,
-    /// The number, which is not 0.
+    /// The constant or the coefficient in this column, which is not 0.
     pub number: F,
 }
 
@@ -37,7 +37,7 @@ pub(crate) fn number_at<F: ExactField>(row: &[Entry<F>], column: u32) -> F
     }
 }
 
-/// The number at a column of the row that has this place.
+/// The number at `column` of the row at `place`.
 pub(crate) fn number_of_row<F: ExactField>(rows: &[Vec<Entry<F>>], place: usize, column: u32) -> F
     requires within { place < length rows.now }
     requires row { (high : ℕ) × IsRow F.value 0 high (slice_index_or (entries_of_rows rows.now) place []) }
@@ -87,7 +87,7 @@ fn lessened<F: ExactField>(number: Option<F>, factor: F, other: Option<F>) -> Re
     }
 }
 
-/// Appends an entry, unless its number is 0. The only error is out of memory.
+/// Appends the number to the row at this column, unless it is 0. The only error is out of memory.
 pub fn push_unless_zero<F: ExactField>(
     row: &mut Vec<Entry<F>>,
     column: u32,
@@ -102,7 +102,7 @@ pub fn push_unless_zero<F: ExactField>(
     Ok(())
 }
 
-/// A row less a factor times another row, in place of what `made` had.
+/// Replaces `made` with `row` less a factor times `other`.
 pub(crate) fn lessen_into<F: ExactField>(
     made: &mut Vec<Entry<F>>,
     row: &[Entry<F>],

@@ -14,16 +14,19 @@ ghost use Rattle.lp_nocycle.specs.Turns.{TurnsToBland, HasFewPivotsByTurn, EndsU
 
 use gq_field::ExactField;
 
-/// Legal pivots lead to some dictionary of a program, whatever rule chose them. From there on no
-/// two dictionaries of one phase that Bland's pivots reach have the same basic variables: Bland,
-/// "New finite pivoting rules for the simplex method"; Chvatal, Linear Programming, chapter 3.
+/// No basis repeats under Bland's rule. Let some legal pivots, by whatever rule, lead from the
+/// first dictionary of a program to a dictionary. From that dictionary on, no two dictionaries of
+/// the same phase that pivots by Bland's rule reach have the same basic variables (Bland, "New
+/// finite pivoting rules for the simplex method"; Chvatal, Linear Programming, chapter 3).
 pub fn no_basis_repeats<F: ExactField>()
     ensures none_repeats { NoneRepeats F.value }
 {}
 
-/// Each answer of a program under Bland's rule has fewer pivots than twice the number of sets of
-/// the variables of its standard form, slacks and variable 0 included. With a limit of at least
-/// that many it is not interrupted: Chvatal, Linear Programming, chapter 3.
+/// A search by Bland's rule ends. Let n be the number of variables of the standard form of a
+/// program, slacks and variable 0 included. Each answer of the program under Bland's rule has fewer
+/// than `2 * 2^n` pivots, twice the number of sets of these variables. If the limit of pivots is at
+/// least that number, the end of the answer is not Interrupted (Chvatal, Linear Programming,
+/// chapter 3).
 pub fn pivots_end<F: ExactField>()
     ensures few { (lp : Lp F) (limit iterlim : ℕ) (answer : Answer F) → IsWellFormed F.value lp →
         IsAnswer F.value limit lp iterlim Bland answer → HasFewPivots F.value lp answer }
@@ -31,21 +34,21 @@ pub fn pivots_end<F: ExactField>()
         IsAnswer F.value limit lp iterlim Bland answer → EndsUninterrupted F.value lp iterlim answer }
 {}
 
-/// A choice of the entering variable that turns to Bland's rule after as many pivots without gain
-/// as there are variables.
+/// A rule for the choice of the entering variable that turns to Bland's rule after as many
+/// successive degenerate pivots as there are variables.
 pub trait Turning {
-    /// That a variable may be chosen, given the first dictionary, the pivots so far, and the
-    /// dictionary they lead to.
+    /// The choice: whether a variable may enter, by the first dictionary, the pivots so far, and
+    /// the dictionary they lead to.
     ghost chooses: { Dictionary → List Pivot → Dictionary → ℕ → Type 0 };
 
-    /// After the turn, the chosen variable is Bland's.
+    /// After the turn the choice obeys Bland's rule.
     ghost turning: { TurnsToBland chooses };
 }
 
-/// A search ends by each choice that turns to Bland's rule. Let n be the number of variables of the
-/// standard form, slacks and variable 0 included. An answer by such a choice has fewer pivots than
-/// 2^n times 2(n + 1), and with a limit of at least that many it is not interrupted: Chvatal,
-/// Linear Programming, chapter 3.
+/// A search ends by each rule that turns to Bland's rule. Let n be the number of variables of the
+/// standard form of a program, slacks and variable 0 included. Each answer of the program by such a
+/// rule has fewer than 2^n times 2(n + 1) pivots. If the limit of pivots is at least that number,
+/// the end of the answer is not Interrupted (Chvatal, Linear Programming, chapter 3).
 pub fn turns_end<F: ExactField, C: Turning>()
     ensures few { (lp : Lp F) (limit iterlim : ℕ) (answer : Answer F) → IsWellFormed F.value lp →
         IsAnswerByChoice F.value limit lp iterlim C.chooses answer → HasFewPivotsByTurn F.value lp answer }
@@ -53,7 +56,8 @@ pub fn turns_end<F: ExactField, C: Turning>()
         IsAnswerByChoice F.value limit lp iterlim C.chooses answer → EndsUninterruptedByTurn F.value lp iterlim answer }
 {}
 
-/// A search by the rule of the largest coefficient ends: it is a choice that turns to Bland's rule.
+/// A search by the rule of the largest coefficient ends, since this rule turns to Bland's rule: the
+/// two statements of `turns_end` hold for its answers.
 pub fn largest_ends<F: ExactField>()
     ensures few { (lp : Lp F) (limit iterlim : ℕ) (answer : Answer F) → IsWellFormed F.value lp →
         IsLargestAnswer F.value limit lp iterlim answer → HasFewPivotsByTurn F.value lp answer }

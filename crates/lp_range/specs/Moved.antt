@@ -12,42 +12,43 @@ use Rattle.lp_core.specs.Feasible.{Feasible}
 use Rattle.lp_core.specs.DualBound.{low, high, objective_costs, dual_bound}
 use Rattle.lp_core.specs.Numbers.{lp_numbers}
 
--- a number means itself
+-- the number that a number means: itself
 abbrev pub itself : Number → Number
 itself x = x
 
--- rows with the right side at a place replaced
+-- these rows with `right` in place of the right side of row i, counted from 0
 abbrev pub rows_with_right : ℕ → Number → List (Row Number) → List (Row Number)
 rows_with_right i right [] = []
 rows_with_right zero right (row ∷ rows) = record row { right = right } ∷ rows
 rows_with_right (suc i) right (row ∷ rows) = row ∷ rows_with_right i right rows
 
--- a program with the right side of the row at a place replaced
+-- a program with `right` in place of the right side of row i, counted from 0
 abbrev pub with_right : ℕ → Number → Lp Number → Lp Number
 with_right i right lp = record lp { rows = rows_with_right i right lp.rows }
 
--- the costs of a program, with the cost of column j replaced; the objective's cost is 1 and each
--- other is 0
+-- the cost of column k after the cost of column j is replaced; before that, the objective's cost is
+-- 1 and each other is 0
 abbrev pub costs_with : {F : Type 0} → Lp F → ℕ → Number → ℕ → Number
 costs_with lp j cost k = if j == k then cost else objective_costs lp k
 
--- the value of costs at a point
+-- the sum of each column's cost times its value at the point x
 abbrev pub cost_at : {F : Type 0} → Lp F → (ℕ → Number) → List Number → Number
 cost_at {F} lp costs x = sum_by_ℚ (λ (q : ℕ × Column F). costs q.0 *ℚ value_of_column x q.0) (enumerate_from 0 lp.columns)
 
--- the bound that duals give for costs: an upper bound when maximizing, else a lower bound
+-- the bound that duals give of the sum of each column's cost times its value: an upper bound when
+-- maximizing, else a lower bound; None if a bound that it uses does not exist
 abbrev pub bound_of_costs : {F : Type 0} → (F → Number) → Lp F → (ℕ → Number) → List Number → Option Number
 bound_of_costs value lp costs duals = if lp.maximize then high value lp costs duals else low value lp costs duals
 
--- With this right side in row i, the program has a feasible point whose objective attains the bound
--- that the duals give.
+-- With this right side in row i, the program has a feasible point whose objective equals the bound
+-- that these duals give.
 abbrev pub MeetsBoundWithRight : {F : Type 0} → (F → Number) → Lp F → List Number → ℕ → Number → Type 0
 MeetsBoundWithRight value lp duals i right =
     (x : List Number) × Feasible itself (with_right i right (lp_numbers value lp)) x
     × (dual_bound itself (with_right i right (lp_numbers value lp)) duals ≡ Some (value_of_column x lp.objective))
 
--- With this cost of column j, some duals give a bound that equals the value of the costs at the
--- levels.
+-- With this cost of column j, there are duals whose bound of the costs equals the sum of cost times
+-- level over the columns.
 abbrev pub MeetsBoundWithCost : {F : Type 0} → (F → Number) → Lp F → List Number → ℕ → Number → Type 0
 MeetsBoundWithCost value lp levels j cost =
     (duals : List Number) × (length duals ≡ length lp.rows)

@@ -20,27 +20,29 @@ use Rattle.lp_core.specs.Pivots.{row_of_basic, change_by_row, ByRule, LeadsWithi
 use Rattle.lp_range.specs.declared.interval.Interval.{Interval}
 use Rattle.lp_range.specs.Spans.{Gain, Span, span}
 
--- an answer is an optimum
+-- the end of the answer is Optimal
 abbrev pub IsOptimum : {F : Type 0} → Answer F → Type 0
 IsOptimum {F} answer = (levels row_levels duals reduced : List F) × (answer.end ≡ Optimal levels row_levels duals reduced)
 
--- these pivots lead from the first dictionary of a program to this one, and all their steps fit
+-- these legal pivots lead from the first dictionary of a program to the dictionary `last`, and all
+-- their steps fit
 abbrev pub LeadTo : {F : Type 0} → (F → Number) → ℕ → Lp F → List Pivot → Dictionary → Type 0
 LeadTo value limit lp pivots last = LeadsWithin (ByRule Legal) limit 1 [] (first_dictionary (standard_form value lp)) pivots last
 
--- an interval as numbers
+-- an interval with its ends as the numbers that they mean
 abbrev pub interval_value : {F : Type 0} → (F → Number) → Interval F → Span
 interval_value value interval = record { low = bound_value value interval.low; high = bound_value value interval.high }
 
--- the numbers of an interval, if any
+-- an interval, if any, with its ends as the numbers that they mean
 abbrev pub span_value : {F : Type 0} → (F → Number) → Option (Interval F) → Option Span
 span_value value None = None
 span_value value (Some interval) = Some (interval_value value interval)
 
 module _ (limit : ℕ) (d : Dictionary) where
-  -- What the constant of row k gains for each unit by which the right side of a row moves; v is the
-  -- row's first slack. For `=l=` it is the slack's coefficient in row k, for `=g=` that negated,
-  -- for an equation the difference of its two slacks' coefficients, and for `=n=` it is 0.
+  -- How the constant of row k of the dictionary changes with the right side of a row of the
+  -- program, per unit; v is the first slack of the program's row. For `=l=` it is the slack's
+  -- coefficient in row k, for `=g=` that negated, for an equation the difference of its two slacks'
+  -- coefficients, and for `=n=` it is 0.
   abbrev pub right_gain : Sense → ℕ → ℕ → Gain
   right_gain sense.E v k =
       record { amount = constant_at d k; each = entry_at d k v -ℚ entry_at d k (v + 1); fits = difference_fits limit (entry_at d k v) (entry_at d k (v + 1)) }
@@ -48,57 +50,61 @@ module _ (limit : ℕ) (d : Dictionary) where
   right_gain sense.G v k = record { amount = constant_at d k; each = neg_ℚ (entry_at d k v); fits = true }
   right_gain sense.N v k = record { amount = constant_at d k; each = whole (pos 0); fits = true }
 
-  -- the gains of the constants of all rows
+  -- how the constants of all rows change with the right side of a row of this sense whose first
+  -- slack is v
   abbrev pub right_gains : Sense → ℕ → List Gain
   right_gains s v = map (right_gain s v) (range_with_len 0 (length d.basic))
 
-  -- the ranges of right sides of rows, of which the first has the first slack v
+  -- the ranges of the right sides of these rows; v is the first slack of the first row
   abbrev pub right_spans : {F : Type 0} → (F → Number) → ℕ → List (Row F) → List (Option Span)
   right_spans value v [] = []
   right_spans value v (row ∷ rows) = span limit (value row.right) (right_gains row.sense v) ∷ right_spans value (v + rows_of_sense row.sense) rows
 
-  -- the variables from number 1 that are not basic
+  -- the variables that are not basic, without variable 0, the artificial one
   abbrev pub nonbasic_variables : List ℕ
   nonbasic_variables = filter (λ v. not (is_some (row_of_basic d v))) (range_with_len 1 d.variables)
 
-  -- what variable v gains when the nonbasic variable q rises by 1
+  -- by how much variable v changes if q, which is not basic, rises by 1
   abbrev pub change : ℕ → ℕ → Number
   change q v = change_by_row d q v (row_of_basic d v)
 
-  -- what a column gains when the nonbasic variable q rises by 1, by its shift and its first
-  -- variable
+  -- by how much a column with this shift and first variable v changes if the variable q, which is
+  -- not basic, rises by 1
   abbrev pub column_change : ℕ × Shift → ℕ → Number
   column_change (v, from_lower b) q = change q v
   column_change (v, from_upper b) q = neg_ℚ (change q v)
   column_change (v, free) q = change q v -ℚ change q (v + 1)
 
-  -- whether the step that finds this gain fits: the difference for a column of two variables
+  -- whether the step fits that computes by how much a column changes as q rises by 1: the
+  -- difference for a free column, which has two variables; other columns need no step
   abbrev pub column_change_fits : ℕ × Shift → ℕ → Bool
   column_change_fits (v, from_lower b) q = true
   column_change_fits (v, from_upper b) q = true
   column_change_fits (v, free) q = difference_fits limit (change q v) (change q (v + 1))
 
-  -- What keeps q from entering when the cost of a column moves: its negated coefficient in the
-  -- objective, less the column's gain by q in the direction of the objective.
+  -- How far q is from entering, and how this changes with the cost of column c, per unit. The
+  -- amount is the negated coefficient of q in the objective. Per unit of cost it changes by as much
+  -- as the column does if q rises by 1, negated when maximizing.
   abbrev pub cost_gain : Bool → ℕ × Shift → ℕ → Gain
   cost_gain maximize c q =
       record { amount = neg_ℚ (entry_at d (length d.basic) q); each = neg_ℚ (directed maximize (column_change c q)); fits = column_change_fits c q }
 
-  -- the cost gains of all nonbasic variables
+  -- how far each nonbasic variable is from entering, and how this changes with the cost of column c
   abbrev pub cost_gains : Bool → ℕ × Shift → List Gain
   cost_gains maximize c = map (cost_gain maximize c) nonbasic_variables
 
--- The ranges of right sides, one for each row: the right side may move while each constant remains
--- at least 0.
+-- The ranges of right sides, one for each row: the values that the right side may take while each
+-- constant of the dictionary remains at least 0. None if a step does not fit.
 abbrev pub rights : {F : Type 0} → (F → Number) → ℕ → Lp F → Dictionary → List (Option Span)
 rights value limit lp d = right_spans limit d value (variables_of value lp + 1) lp.rows
 
--- the ranges of the costs of columns from place j on, by their shifts and first variables
+-- the ranges of the costs of these columns, each with its first variable and shift; j is the number
+-- of the first column
 abbrev pub cost_spans : {F : Type 0} → ℕ → Dictionary → Lp F → ℕ → List (ℕ × Shift) → List (Option Span)
 cost_spans limit d lp j columns =
     map (λ (p : ℕ × (ℕ × Shift)). span limit (objective_costs lp p.0) (cost_gains limit d lp.maximize p.1)) (enumerate_from j columns)
 
--- The ranges of costs, one for each column. The cost, which is 1 for the objective and else 0, may
--- move while no variable improves.
+-- The ranges of costs, one for each column: the values that the cost, which is 1 for the objective
+-- and else 0, may take while no variable improves. None if a step does not fit.
 abbrev pub costs : {F : Type 0} → (F → Number) → ℕ → Lp F → Dictionary → List (Option Span)
 costs value limit lp d = cost_spans limit d lp 0 (columns_of value lp)

@@ -1,5 +1,5 @@
--- How far a move may go while the amounts that change with it remain at least 0 (Chvatal, Linear
--- Programming, chapter 10).
+-- How far a number may move while the amounts that change with it remain at least 0 (Chvatal,
+-- Linear Programming, chapter 10).
 use Rattle.std.specs.Prelude.{ℕ, ◌&&◌, Bool, true, pos, List, [], ◌∷◌, Option, Some, None, option_map, if◌then◌else◌}
 use Rattle.std.specs.List.{All}
 use Rattle.std.specs.declared.cmp.Ordering.{Ordering}
@@ -11,103 +11,111 @@ use Rattle.gq_field.specs.Fits.{sum_fits}
 use Rattle.lp_core.specs.Feasible.{KeepsLower, KeepsUpper}
 use Rattle.lp_core.specs.Steps.{quotient_fits}
 
--- An amount, what it gains for each unit of a move, and whether the step that finds the gain fits.
+-- An amount, what it gains for each unit by which a number moves, and whether the step that
+-- computes this gain fits.
 pub record Gain : Type 0 where
   pub amount : Number
   pub each : Number
   pub fits : Bool
 
--- An interval of numbers; each end may be none.
+-- An interval of numbers; None is no end on that side.
 pub record Span : Type 0 where
   pub low : Option Number
   pub high : Option Number
 
--- a number is in a span
+-- x is in the span
 abbrev pub IsInSpan : Span → Number → Type 0
 IsInSpan span x = KeepsLower span.low x × KeepsUpper span.high x
 
--- each amount is at least 0 after a move
+-- after a move by t each amount is at least 0
 abbrev pub Stay : List Gain → Number → Type 0
 Stay gains t = All (λ (g : Gain). whole (pos 0) ≤ℚ g.amount +ℚ t *ℚ g.each) gains
 
--- the move at which an amount is 0
+-- the move by which an amount, which gains g.each for each unit of the move, becomes 0
 abbrev pub end_of : Gain → Number
 end_of g = neg_ℚ (g.amount /ℚ g.each)
 
--- the greater of an end so far, if there is one, and another
+-- the greater of the end e so far, if there is one, and x
 abbrev pub greater_end : Option Number → Number → Option Number
 greater_end None x = Some x
 greater_end (Some e) x = if is_lt (number_cmp e x) then Some x else Some e
 
--- the lesser of an end so far, if there is one, and another
+-- the lesser of the end e so far, if there is one, and x
 abbrev pub lesser_end : Option Number → Number → Option Number
 lesser_end None x = Some x
 lesser_end (Some e) x = if is_lt (number_cmp x e) then Some x else Some e
 
--- an amount that gains ends the moves from below, by how its gain compares with 0
+-- the least move allowed so far, if there is one, raised to the move e if an amount grows with the
+-- move, that is, if its gain is Greater than 0
 abbrev pub low_by : Ordering → Option Number → Number → Option Number
 low_by Less low e = low
 low_by Equal low e = low
 low_by Greater low e = greater_end low e
 
--- an amount that loses ends them from above
+-- the greatest move allowed so far, if there is one, lowered to the move e if an amount falls with
+-- the move, that is, if its gain is Less than 0
 abbrev pub high_by : Ordering → Option Number → Number → Option Number
 high_by Less high e = lesser_end high e
 high_by Equal high e = high
 high_by Greater high e = high
 
--- an end from below so far, with one amount more
+-- the least move allowed so far, if there is one, raised so that the amount g, which changes with
+-- the move, remains at least 0
 abbrev pub low_with : Option Number → Gain → Option Number
 low_with low g = low_by (number_cmp g.each (whole (pos 0))) low (end_of g)
 
--- and an end from above so far
+-- the greatest move allowed so far, if there is one, lowered so that the amount g, which changes
+-- with the move, remains at least 0
 abbrev pub high_with : Option Number → Gain → Option Number
 high_with high g = high_by (number_cmp g.each (whole (pos 0))) high (end_of g)
 
--- the greatest of the ends from below, of one so far and of these amounts
+-- the least move allowed so far, if there is one, raised so that each of these amounts, which
+-- change with the move, remains at least 0
 abbrev pub low_end : Option Number → List Gain → Option Number
 low_end low [] = low
 low_end low (g ∷ gains) = low_end (low_with low g) gains
 
--- the least of the ends from above, of one so far and of these amounts
+-- the greatest move allowed so far, if there is one, lowered so that each of these amounts, which
+-- change with the move, remains at least 0
 abbrev pub high_end : Option Number → List Gain → Option Number
 high_end high [] = high
 high_end high (g ∷ gains) = high_end (high_with high g) gains
 
--- whether the quotient for an end fits, by how the gain compares with 0; without an end there is no
--- step
+-- whether the quotient fits by which an amount limits the moves, by how its gain compares with 0;
+-- an amount whose gain is Equal to 0 limits none
 abbrev pub end_fits : Ordering → ℕ → Gain → Bool
 end_fits Less limit g = quotient_fits limit g.amount g.each
 end_fits Equal limit g = true
 end_fits Greater limit g = quotient_fits limit g.amount g.each
 
--- whether the steps on an amount fit: the one that finds its gain, and the quotient if it gives an
--- end
+-- whether the steps on an amount fit: the one that computes its gain, and the quotient if it limits
+-- the moves
 abbrev pub gain_fits : ℕ → Gain → Bool
 gain_fits limit g = g.fits && end_fits (number_cmp g.each (whole (pos 0))) limit g
 
--- whether the steps on all amounts fit
+-- whether the steps on each of these amounts fit
 abbrev pub gains_fit : ℕ → List Gain → Bool
 gains_fit limit [] = true
 gains_fit limit (g ∷ gains) = gain_fits limit g && gains_fit limit gains
 
--- whether the sum of a number and an end fits
+-- whether the sum of x and the least or greatest move e fits; true without such a move
 abbrev pub moved_fits : ℕ → Number → Option Number → Bool
 moved_fits limit x None = true
 moved_fits limit x (Some e) = sum_fits limit x e
 
--- a number moved to an end
+-- x plus the least or greatest move e; None without such a move
 abbrev pub moved_to : Number → Option Number → Option Number
 moved_to x e = option_map (λ t. x +ℚ t) e
 
--- the values that a number may take while these amounts remain at least 0, given ends so far; none
--- if a step does not fit
+-- the values that x may take while these amounts remain at least 0, where moves below `low` and
+-- above `high` are not allowed already; None if a step does not fit
 abbrev pub span_from : ℕ → Number → Option Number → Option Number → List Gain → Option Span
 span_from limit x low high gains =
     if gains_fit limit gains && moved_fits limit x (low_end low gains) && moved_fits limit x (high_end high gains) then
     Some (record { low = moved_to x (low_end low gains); high = moved_to x (high_end high gains) }) else
     None
 
--- the values that a number may take while these amounts remain at least 0
+-- the values that x may take while these amounts, which change with it, remain at least 0; None if
+-- a step does not fit
 abbrev pub span : ℕ → Number → List Gain → Option Span
 span limit x gains = span_from limit x None None gains

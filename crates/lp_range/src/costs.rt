@@ -28,7 +28,8 @@ pub(crate) struct Placed {
     pub(crate) row: Option<usize>,
 }
 
-/// A column by its shift and its variables; only a column without bounds has the second.
+/// A column by its shift and its variables, each with its row. Only a column without bounds uses
+/// the second.
 #[derive(Clone, Copy)]
 pub(crate) struct ColumnPlace<F> {
     pub(crate) shift: Shift<F>,
@@ -225,7 +226,8 @@ fn ranges_of<F: ExactField>(
     Ok(made)
 }
 
-/// The range of the cost of each column, at a final dictionary. The only error is out of memory.
+/// The range of the cost of each column at a final dictionary; `None` for a column if a step does
+/// not fit. The only error is out of memory.
 pub(crate) fn costs_of<F: ExactField>(
     alloc: Global,
     lp: &Lp<F>,

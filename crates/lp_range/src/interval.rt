@@ -1,4 +1,4 @@
-//! Intervals of numbers, each end of which may be absent, and the ranges of a program.
+//! Intervals of numbers, and the ranges of a program.
 ghost use Rattle.std.specs.Prelude.{◌≡◌, true, [], None, Some};
 ghost use Rattle.lp_core.specs.Feasible.{bound_value};
 ghost use Rattle.lp_range.specs.Spans as spans;
@@ -9,28 +9,32 @@ use gq_field::ExactField;
 use lp_core::Sequence;
 use std::cmp::Ordering;
 
-/// The numbers from a least to a greatest one, both included.
+/// An interval of numbers that includes its ends. It may have no end on either side.
 #[derive(Clone, Copy)]
 pub struct Interval<F> {
-    /// The least number; none without a lower end.
+    /// The least number of the interval; `None` if the interval has no lower end.
     pub low: Option<F>,
-    /// The greatest number; none without an upper end.
+    /// The greatest number of the interval; `None` if the interval has no upper end.
     pub high: Option<F>,
 }
 
-/// How far each right side and each cost of a solved program may move, by itself, before the
-/// certificate of its answer changes.
+/// The sensitivity ranges of a solved program: the values that each right side and each cost may
+/// have such that the final basis is still optimal, if all other numbers of the program stay the
+/// same.
 #[derive(Drop)]
 pub struct Ranges<F> {
-    /// For each row the values that its right side may take. None if a step that finds them does
-    /// not fit.
+    /// For each row, in order, the values that its right side may have such that the final basis is
+    /// still optimal, while all other numbers of the program stay the same. An entry is `None` if a
+    /// step that computes it exceeds the limit of the field.
     pub rights: Sequence<Option<Interval<F>>>,
-    /// For each column the values that its cost may take, which is 1 for the objective and else 0.
-    /// None if a step that finds them does not fit.
+    /// For each column, in order, the values that its cost may have such that the final basis is
+    /// still optimal, while all other numbers of the program stay the same. In the program itself
+    /// the cost is 1 for the column of the objective, and 0 for any other. An entry is `None` if a
+    /// step that computes it exceeds the limit of the field.
     pub costs: Sequence<Option<Interval<F>>>,
 }
 
-/// All numbers.
+/// The interval of all numbers, which has no end.
 pub(crate) fn all_numbers<F: ExactField>() -> Interval<F>
     ensures low { result.low ≡ None }
     ensures high { result.high ≡ None }
@@ -61,8 +65,8 @@ fn lesser<F: ExactField>(end: Option<F>, x: F) -> F
     }
 }
 
-/// The moves so far, narrowed to those that keep an amount at least 0 which gains `each` for a unit
-/// of the move. None if the quotient of the two, which is an end, does not fit.
+/// The moves so far, narrowed to those that keep an amount at least 0, which gains `each` for a
+/// unit of the move. `None` if the quotient of the two, which gives an end, does not fit.
 pub(crate) fn with_amount<F: ExactField>(
     moves: Interval<F>,
     amount: F,
@@ -106,7 +110,8 @@ fn moved<F: ExactField>(given: F, end: Option<F>) -> Result<Option<F>, ()>
     }
 }
 
-/// The moves added to the number that moves; none if a sum does not fit.
+/// The values that a number takes by these moves; `None` if the sum of the number and an end does
+/// not fit.
 pub(crate) fn around<F: ExactField>(given: F, moves: Interval<F>) -> Option<Interval<F>>
     ensures { span_value F.value result ≡ spans.span_from F.limit (F.value given) (bound_value F.value moves.low) (bound_value F.value moves.high) [] }
 {

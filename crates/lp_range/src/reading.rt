@@ -21,15 +21,16 @@ use lp_core::{Answer, Lp, Sequence};
 use lp_dict::Dict;
 use std::alloc::{AllocError, Global};
 
-/// The ranges of a program from its answer, which is an optimum: Chvatal, Linear Programming,
-/// chapter 10.
+/// The ranges of a program from its answer, which is required to be an optimum (Chvatal, Linear
+/// Programming, chapter 10).
 ///
-/// They are read from the final dictionary, to which the pivots of the answer lead. The right side
-/// of a row may move while each constant remains at least 0: then the listed duals certify the
-/// program with that right side. The cost of a column may move while no variable improves: then
-/// some duals certify the listed levels for these costs. One number moves at a time.
+/// They are computed from the final dictionary, to which the pivots of the answer lead. The right
+/// side of a row may move while each constant of that dictionary remains at least 0: then the duals
+/// of the answer certify the program with the moved right side. The cost of a column may move while
+/// no entering variable would improve the objective: then some duals certify the levels of the
+/// answer for the moved cost. One number moves at a time.
 ///
-/// An interval is none exactly if one of its steps does not fit under the limit of the field. Its
+/// An interval is `None` exactly if one of its steps does not fit under the limit of the field. Its
 /// steps are, for each row or variable, the difference for an equation or a column without bounds
 /// and the quotient that gives an end, and then the two sums. The only error is out of memory.
 pub fn ranges<F: ExactField>(

@@ -49,7 +49,8 @@ fn after<F: ExactField>(alloc: Global, dict: Dict<F>, pivot: Pivot) -> Result<Di
     }
 }
 
-/// The dictionary to which pivots lead from a first one. The only error is out of memory.
+/// The dictionary to which these legal pivots, whose steps all fit, lead from a first one. The only
+/// error is out of memory.
 pub(crate) fn replayed<F: ExactField>(
     alloc: Global,
     first: Dict<F>,

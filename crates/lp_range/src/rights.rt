@@ -100,7 +100,8 @@ fn ranges_of<F: ExactField>(
     Ok(made)
 }
 
-/// The range of the right side of each row, at a final dictionary. The only error is out of memory.
+/// The range of the right side of each row at a final dictionary; `None` for a row if a step does
+/// not fit. The only error is out of memory.
 pub(crate) fn rights_of<F: ExactField>(
     alloc: Global,
     lp: &Lp<F>,

@@ -6,12 +6,13 @@ use Rattle.lp_core.specs.declared.answer.Rule.TheVariants.{Legal}
 use Rattle.lp_core.specs.Dictionary.{Dictionary, Improves, IsProper}
 use Rattle.lp_core.specs.Pivots.{ByRule, Leads}
 
--- a choice, by the first dictionary, the pivots so far, the dictionary they lead to, and a
--- variable: each chosen variable improves
+-- each variable q that the choice allows to enter at a dictionary d improves there, whatever the
+-- first dictionary and the pivots so far are
 abbrev pub ChoosesImproving : (Dictionary → List Pivot → Dictionary → ℕ → Type 0) → Type 0
 ChoosesImproving choice = (first : Dictionary) (pivots : List Pivot) (d : Dictionary) (q : ℕ) → choice first pivots d q → Improves d q
 
--- wherever legal pivots lead, if a variable improves then some variable is chosen
+-- at each dictionary d to which legal pivots lead from one with the invariant of a program's, if
+-- some variable improves, the choice allows a variable to enter
 abbrev pub AlwaysChooses : (Dictionary → List Pivot → Dictionary → ℕ → Type 0) → Type 0
 AlwaysChooses choice =
     (first : Dictionary) (pivots : List Pivot) (d : Dictionary) → IsProper first → Leads (ByRule Legal) [] first pivots d → ((v : ℕ) × Improves d v) →

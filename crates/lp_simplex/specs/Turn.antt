@@ -1,5 +1,5 @@
--- The turn to Bland's rule, over any rule of choice (Chvatal, Linear Programming, chapters 2 and
--- 3).
+-- The turn to Bland's rule after a run of degenerate pivots, from any other rule (Chvatal, Linear
+-- Programming, chapters 2 and 3).
 use Rattle.std.specs.Prelude.{ℕ, List, ◌⊎◌}
 use Rattle.gq_number.specs.Number.{Number}
 use Rattle.lp_core.specs.declared.answer.Answer.{Answer}
@@ -11,15 +11,17 @@ use Rattle.lp_core.specs.Pivots.{IsChosen}
 use Rattle.lp_core.specs.Answers.{IsAnswerByChoice}
 use Rattle.lp_core.specs.LargestCoefficient.{HasTurned}
 
--- the variable that enters next by a rule: one that the rule picks before the turn, and Bland's
--- after it
+-- variable q may enter next: until the search has turned to Bland's rule, the rule picks q; from
+-- then on, q is the least variable that improves
 abbrev pub IsNextBy : (Dictionary → ℕ → Type 0) → Dictionary → List Pivot → Dictionary → ℕ → Type 0
 IsNextBy Picks first pivots d q = (¬ (HasTurned first pivots d) × Picks d q) ⊎ (HasTurned first pivots d × IsChosen Bland d q)
 
--- a rule picks a variable wherever some improves
+-- the rule picks a variable at each dictionary with the invariant of a program's at which some
+-- variable improves
 abbrev pub AlwaysPicks : (Dictionary → ℕ → Type 0) → Type 0
 AlwaysPicks Picks = (d : Dictionary) → IsProper d → ((v : ℕ) × Improves d v) → (q : ℕ) × Picks d q
 
--- an answer of a program under a limit of pivots by a rule with the turn to Bland's
+-- an answer of a program under a limit of pivots in which the entering variable is one that the
+-- rule picks until the search has turned to Bland's rule, and Bland's from then on
 abbrev pub IsTurningAnswer : {F : Type 0} → (F → Number) → ℕ → (Dictionary → ℕ → Type 0) → Lp F → ℕ → Answer F → Type 0
 IsTurningAnswer value limit Picks lp iterlim answer = IsAnswerByChoice value limit lp iterlim (IsNextBy Picks) answer

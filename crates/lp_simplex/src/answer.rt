@@ -159,14 +159,16 @@ fn formless<F: ExactField>(alloc: Global, lp: &Lp<F>, stop: Stop) -> Result<End<
     }
 }
 
-/// An answer of a program, found by at most `iterlim` pivots. The choice gives the entering
-/// variable, and of the tied variables the least leaves: Chvatal, Linear Programming, chapters 2, 3
-/// and 8.
+/// An answer of a program, found by at most `iterlim` pivots. In each pivot `choice` picks the
+/// variable that enters, and of the variables that tie in the ratio test the one with the least
+/// number leaves: Chvatal, Linear Programming, chapters 2, 3 and 8. `choice` must not have seen any
+/// pivot.
 ///
-/// If the bounds of a column cross, the answer is Infeasible with the first such column, and no
-/// step is made. If a step of the standard form does not fit, it is Refused with the first such
-/// step. Else pivots are made until none is required, the limit is met, or a step does not fit; the
-/// end is read from the final dictionary. The only error is out of memory.
+/// If the bounds of a column cross, the end is Infeasible with the first such column, and no step
+/// is made. If a step of the standard form does not fit under the field's limit, the end is Refused
+/// with the first such step. Otherwise pivots are made until none is required, `iterlim` pivots are
+/// made, or a step does not fit; the end is read from the final dictionary. The only error is out
+/// of memory.
 pub fn solve_by<C: Choosing<F>, F: ExactField>(
     alloc: Global,
     lp: &Lp<F>,

@@ -10,22 +10,23 @@ ghost use Rattle.lp_simplex.specs.Choices.{ChoosesImproving, AlwaysChooses};
 
 use gq_field::ExactField;
 
-/// A choice of the entering variable that chooses only improving variables, and finds one whenever
-/// some variable improves.
+/// A rule for the entering variable: it allows only variables that improve, and whenever some
+/// variable improves, it allows at least one.
 pub trait Finding {
-    /// That a variable may be chosen, given the first dictionary, the pivots so far, and the
-    /// dictionary they lead to.
+    /// Whether a variable may enter, by the first dictionary, the pivots so far, and the dictionary
+    /// they lead to.
     ghost chooses: { Dictionary → List Pivot → Dictionary → ℕ → Type 0 };
 
-    /// A chosen variable improves.
+    /// A variable that may enter improves.
     ghost improving: { ChoosesImproving chooses };
 
-    /// If some variable improves, one is chosen.
+    /// If some variable improves, one may enter.
     ghost always: { AlwaysChooses chooses };
 }
 
-/// A program has an answer under each limit of pivots, by any choice of the entering variable that
-/// always finds one: Chvatal, Linear Programming, chapters 2, 3 and 8.
+/// A program has an answer under each limit of pivots and each rule for the entering variable that
+/// allows only variables that improve, and at least one whenever some variable improves: Chvatal,
+/// Linear Programming, chapters 2, 3 and 8.
 pub fn an_answer<F: ExactField, C: Finding>()
     ensures { (lp : Lp F) (iterlim : ℕ) → IsWellFormed F.value lp →
         (answer : Answer F) × IsAnswerByChoice F.value F.limit lp iterlim C.chooses answer }

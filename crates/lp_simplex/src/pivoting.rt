@@ -24,14 +24,15 @@ enum NextStep {
     End(Option<u32>),
 }
 
-/// Where a run of pivots halts.
+/// How a run of pivots halts.
 #[derive(Drop)]
 pub(crate) enum Halt<F: ExactField> {
-    /// No pivot is required: nothing improves, or this variable improves and no row limits it.
+    /// No pivot is required at the final dictionary: nothing improves, or this variable improves
+    /// and no row limits it.
     Ended(Dict<F>, Option<u32>),
-    /// The limit of pivots is met, and a further pivot is required.
+    /// The limit of pivots is met at this dictionary, and a further pivot is required.
     Interrupted(Dict<F>),
-    /// This step of a further pivot does not fit.
+    /// This step of a further pivot does not fit under the limit of the numbers.
     Refused(StepName),
 }
 
@@ -44,7 +45,7 @@ enum Step<F: ExactField> {
     Halted(Halt<F>),
 }
 
-/// A run of pivots: the pivots it made, and where it halted.
+/// A run of pivots: the pivots made, and how it halts.
 #[derive(Drop)]
 pub(crate) struct PivotRun<F: ExactField> {
     pub(crate) pivots: Vec<Pivot>,
@@ -135,7 +136,8 @@ fn halted<C: Choosing<F>, F: ExactField>(dict: Dict<F>, choice: &C) -> Halt<F>
     }
 }
 
-/// The run of at most `iterlim` pivots from a first dictionary.
+/// The run of at most `iterlim` pivots from a program's first dictionary. The error is out of
+/// memory.
 pub(crate) fn run_of_pivots<C: Choosing<F>, F: ExactField>(
     alloc: Global,
     first: Dict<F>,

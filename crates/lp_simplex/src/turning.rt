@@ -14,12 +14,13 @@ use lp_dict::Dict;
 
 /// What is remembered of the pivots of a phase.
 ///
-/// The rule picks until as many successive pivots as there are variables gained nothing. From then
-/// on, to the end of the phase, the least improving variable enters: Chvatal, Linear Programming,
-/// chapters 2 and 3.
+/// The rule picks the entering variable until as many successive pivots were degenerate as there
+/// are variables. From then on, to the end of the phase, the least improving variable enters:
+/// Chvatal, Linear Programming, chapters 2 and 3.
 #[derive(Clone, Copy)]
 pub(crate) enum Count {
-    /// This many successive pivots gained nothing, since the phase began or since the last gain.
+    /// This many pivots were degenerate in succession, since the phase began or since a pivot that
+    /// was not.
     Still(u32),
     /// The search has turned to Bland's rule.
     Turned,
@@ -55,7 +56,7 @@ fn is_zero<F: ExactField>(x: F) -> bool
     x.cmp_value(F::zero()).is_eq()
 }
 
-/// A rule of choice, and what is remembered of the pivots of a phase.
+/// A rule that picks the entering variable, and what is remembered of the pivots of a phase.
 #[derive(Drop)]
 pub(crate) struct Turning<P: Drop> {
     rule: P,

@@ -13,15 +13,18 @@ use gq_field::ExactField;
 use lp_core::{Answer, Lp};
 use std::alloc::{AllocError, Global};
 
-/// The answer of a program by a rule of choice, found by at most `iterlim` pivots: Chvatal, Linear
-/// Programming, chapters 2 and 3.
+/// An answer of a program by `rule` with a turn to Bland's rule, found by at most `iterlim` pivots:
+/// Chvatal, Linear Programming, chapters 2 and 3.
 ///
-/// A variable that the rule picks enters, and of the tied ones the least leaves. After as many
-/// successive pivots without gain as there are variables, Bland's rule takes over to the end of the
-/// phase. Optimal, Infeasible and Unbounded come with their certificates. Interrupted is the end
-/// after exactly `iterlim` pivots when a further one is required. Refused has the first step that
-/// does not fit under the limit of the field. The turn bounds the pivots, and with a limit of at
-/// least the bound the end is not Interrupted. The error is out of memory.
+/// A variable that `rule` picks enters, and of those that tie in the ratio test the one with the
+/// least number leaves. After as many successive degenerate pivots as there are variables, Bland's
+/// rule takes over to the end of the phase (the turn).
+///
+/// An answer whose end is Optimal, Infeasible or Unbounded has a certificate of this end.
+/// Interrupted is the end after exactly `iterlim` pivots if a further one is required. Refused has
+/// the first step that does not fit under the limit of the field. The turn bounds the number of
+/// pivots, and if `iterlim` is at least this bound, the end is not Interrupted. The only error is
+/// out of memory.
 pub fn solve_with<P: Picking<F>, F: ExactField>(
     alloc: Global,
     lp: &Lp<F>,

@@ -4,12 +4,12 @@ use Rattle.std.specs.List.{list_all}
 use Rattle.std.specs.Char.{is_ascii_alphabetic, is_ascii_alphanumeric}
 use Rattle.std.specs.Str.{str_eq_ignore_ascii_case}
 
--- the text begins with a letter
+-- whether the text begins with a letter
 abbrev pub begins_with_letter : List ℕ → Bool
 begins_with_letter [] = false
 begins_with_letter (byte ∷ bytes) = is_ascii_alphabetic byte
 
--- a letter, a digit or `_`, which is byte 95
+-- whether the byte is a letter, a digit or `_`, which is byte 95
 abbrev pub is_solver_name_byte : ℕ → Bool
 is_solver_name_byte byte = is_ascii_alphanumeric byte || byte == 95
 

@@ -12,11 +12,12 @@ use Rattle.lp_core.specs.Pivots.{IsChosen}
 use Rattle.lp_slot.specs.declared.solver.SolverRule.{SolverRule}
 use Rattle.lp_slot.specs.declared.solver.SolverRule.TheVariants.{Bland, LargestCoefficient, Turning, Legal}
 
--- the variable that enters next: any improving one before the turn, and Bland's after it
+-- variable q may enter next: until the search has turned to Bland's rule, q improves; from then on,
+-- it is the least variable that improves
 abbrev pub IsNextImproving : Dictionary → List Pivot → Dictionary → ℕ → Type 0
 IsNextImproving first pivots d q = (¬ (HasTurned first pivots d) × Improves d q) ⊎ (HasTurned first pivots d × IsChosen by.Bland d q)
 
--- an answer of a program under a limit of pivots and the rule of a solver
+-- an answer of a program under a limit of pivots and the rule by which a solver chooses them
 abbrev pub IsAnswerUnder : {F : Type 0} → (F → Number) → ℕ → Lp F → ℕ → SolverRule → Answer F → Type 0
 IsAnswerUnder value limit lp iterlim Bland answer = IsAnswer value limit lp iterlim by.Bland answer
 IsAnswerUnder value limit lp iterlim LargestCoefficient answer = IsLargestAnswer value limit lp iterlim answer

@@ -11,39 +11,43 @@ use gq_frac::Frac;
 use lp_core::{Answer, Lp, Pivot, Sequence};
 use std::alloc::{AllocError, Global};
 
-/// Which answers a solver gives.
+/// The rule by which a solver chooses the entering and the leaving variable of each pivot. An
+/// answer of the solver has only pivots that its rule allows.
 #[derive(Clone, Copy)]
 pub enum SolverRule {
-    /// Those of Bland's rule.
+    /// Bland's rule: the least improving variable enters, and the least tied one leaves.
     Bland,
-    /// Those of the largest coefficient, with the turn to Bland's rule after pivots without gain.
+    /// The largest coefficient, with a turn to Bland's rule after as many successive degenerate
+    /// pivots as there are variables.
     LargestCoefficient,
-    /// Those by any improving variables before that turn, and by Bland's rule after it.
+    /// Any improving variable enters until this turn, and Bland's after it.
     Turning,
-    /// Those by any legal pivots.
+    /// Any legal pivots.
     Legal,
 }
 
 /// A solver of linear programs over exact numbers.
 ///
-/// A solver exposes its name, by which a source chooses it; the rule by which it chooses pivots;
-/// and the pivots of each answer that it has given. Only these pivots change.
+/// A solver exposes the name by which a source chooses it, the rule by which it chooses pivots, and
+/// the pivots of each answer that it has given so far. A call of `solve` changes nothing but the
+/// last of these, the lists of pivots.
 pub trait LpSolver: Drop {
     /// The name by which a source chooses the solver.
     ghost name: { Self → List ℕ };
 
-    /// Which answers the solver gives.
+    /// The rule by which the solver chooses pivots.
     ghost rule: { Self → RuleName };
 
     /// The pivots of each answer that the solver has given, in order.
     ghost paths: { Self → List (List Pivot) };
 
-    /// The name by which a source chooses the solver, in a form that a source can write.
+    /// The name by which a source chooses the solver. A source can write it: it is a letter
+    /// followed by letters, digits and `_`, at most 63 bytes, and not `none`.
     fn name(&self) -> &str
         ensures name { result.now ≡ name self.now }
         ensures named { IsSolverName result.now };
 
-    /// Which answers the solver gives.
+    /// The rule by which the solver chooses pivots.
     fn rule(&self) -> SolverRule
         ensures { result ≡ rule self.now };
 
@@ -56,8 +60,8 @@ pub trait LpSolver: Drop {
     ///
     /// Optimal, Infeasible and Unbounded come with their certificates. Interrupted is the end after
     /// exactly `iterlim` pivots when a further one is required. Refused has the first step that
-    /// does not fit under the limit of the numbers. The pivots are appended to the paths as one
-    /// list. The only error is out of memory, after which the solver is as before.
+    /// does not fit under the limit of the numbers. The answer's pivots are appended to `paths` as
+    /// one list. The only error is out of memory, after which the solver is unchanged.
     fn solve(
         &mut self,
         alloc: Global,
@@ -71,6 +75,6 @@ pub trait LpSolver: Drop {
         ensures rule { rule self.new ≡ rule self.old }
         ensures unchanged { OnErr result (self.new ≡ self.old) };
 
-    /// The name is of the form that a source can write.
+    /// The name is one that a source can write.
     ghost named: { (s : Self) → IsSolverName (name s) };
 }

@@ -10,11 +10,11 @@ use Rattle.lp_std.specs.Meaning.{standard_value}
 pub use Rattle.lp_core.specs.Dictionary.{HasZero, IsDictionaryOf}
 pub use Rattle.lp_core.specs.Ends.{IsReadAt}
 
--- the lists of a final dictionary, as numbers
+-- the values, coefficients and ray of a final dictionary, each as the number that it means
 abbrev pub last_value : {F : Type 0} → (F → Number) → Final F → form.Last
 last_value value final = record { values = map value final.values; costs = map value final.costs; changes = map value final.ray }
 
 module _ {F : Type 0} (value : F → Number) where
-  -- what is read from a final dictionary of this standard form
+  -- `final` has what is read from some dictionary of this standard form at which a search may end
   abbrev pub IsLast : Standard F → Final F → Type 0
   IsLast s final = (d : Dictionary) × IsDictionaryOf (standard_value value s) d × IsReadAt d final.kind (last_value value final)

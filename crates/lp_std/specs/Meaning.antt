@@ -14,27 +14,28 @@ use Rattle.lp_std.specs.declared.types.Standard.{Standard}
 use Rattle.lp_std.specs.declared.stop.Stop.{Stop}
 use Rattle.lp_std.specs.declared.stop.Stop.TheVariants as stop
 
--- what a shift means
+-- a column's shift, its bound as the number that it means
 abbrev pub shift_value : {F : Type 0} → (F → Number) → Shift F → form.Shift
 shift_value value (shift.Lower b) = form.from_lower (value b)
 shift_value value (shift.Upper b) = form.from_upper (value b)
 shift_value value shift.Free = form.free
 
--- what an origin means
+-- the origin of a row of the standard form, in the terms of the specification
 abbrev pub origin_value : Origin → form.RowOrigin
 origin_value (origin.Row i) = form.of_row i
 origin_value (origin.Negated i) = form.of_negated i
 origin_value (origin.Bound j) = form.of_bound j
 
--- entries as numbers
+-- entries, each coefficient as the number that it means
 abbrev pub entries_value : {F : Type 0} → (F → Number) → List (ℕ × F) → List (ℕ × Number)
 entries_value {F} value entries = map (λ (e : ℕ × F). (e.0, value e.1)) entries
 
--- what a row means
+-- a row of the standard form, its right side and coefficients as the numbers that they mean
 abbrev pub row_value : {F : Type 0} → (F → Number) → StdRow F → form.StandardRow
 row_value value row = record { right = value row.right; entries = entries_value value row.entries; origin = origin_value row.origin }
 
--- what a standard form means; the variables of the shifts are numbered from 1
+-- a standard form with the numbers that its values mean; the variables of the shifts are numbered
+-- from 1
 abbrev pub standard_value : {F : Type 0} → (F → Number) → Standard F → form.Standard
 standard_value value s =
     record {
@@ -44,8 +45,9 @@ standard_value value s =
       constant = value s.constant;
     }
 
--- Why a program has no standard form: a column's bounds cross, or else a step does not fit. Out of
--- memory has no cause.
+-- Why a program has no standard form. Crossed: column j is the first whose lower bound is above its
+-- upper bound. Limit: no column is such, and this step of the computation is the first whose result
+-- does not fit. Memory makes no claim.
 abbrev pub HasNoForm : {F : Type 0} → (F → Number) → ℕ → Lp F → Stop → Type 0
 HasNoForm value limit lp (stop.Limit step) = FirstCrossed value lp.columns None × FirstStop (standard_steps value limit lp) step
 HasNoForm value limit lp (stop.Crossed j) = FirstCrossed value lp.columns (Some j)

@@ -12,12 +12,14 @@ use Rattle.lp_std.specs.declared.stop.Stop.TheVariants as stop
 use Rattle.lp_std.specs.Meaning.{standard_value}
 
 module _ {F : Type 0} (value : F → Number) (lp : Lp F) where
-  -- this is the program's standard form, which exists if no bounds cross
+  -- no bounds of the program cross, and s is its standard form
   abbrev pub IsFormOf : Standard F → Type 0
   IsFormOf s = FirstCrossed value lp.columns None × (standard_value value s ≡ form.standard_form value lp)
 
 module _ {F : Type 0} (value : F → Number) (limit : ℕ) (lp : Lp F) where
-  -- Why the recovery fails: a step does not fit. Out of memory has no cause.
+  -- Why the recovery of the program's answer from `last`, for an end of the kind k, fails. Limit:
+  -- this step is the first whose result does not fit. Memory makes no claim. Crossed does not
+  -- occur.
   abbrev pub HasNoRecovery : EndKind → form.Last → Stop → Type 0
   HasNoRecovery k last (stop.Limit step) = FirstStop (steps_back value limit lp k last) step
   HasNoRecovery k last (stop.Crossed j) = ⊥

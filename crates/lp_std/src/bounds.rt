@@ -21,7 +21,7 @@ fn crosses<F: ExactField>(column: &Column<F>) -> bool
     }
 }
 
-/// The first column whose lower bound exceeds its upper bound.
+/// The first column whose lower bound exceeds its upper bound, from 0; `None` if no bounds cross.
 pub(crate) fn first_crossed<F: ExactField>(columns: &[Column<F>]) -> Option<u32>
     requires { length columns.now < 2 ^ 32 }
     ensures { FirstCrossed F.value columns.now result }
@@ -46,7 +46,7 @@ fn shift_of<F: ExactField>(column: &Column<F>) -> Shift<F>
     }
 }
 
-/// The shifts of columns.
+/// The shift of each column. The error is out of memory.
 pub(crate) fn shifts_of<F: ExactField>(
     alloc: Global,
     columns: &[Column<F>],
@@ -71,7 +71,7 @@ fn width_of<F: ExactField>(shift: Shift<F>) -> u32
     }
 }
 
-/// How many variables shifts have.
+/// How many variables express the columns with these shifts.
 pub(crate) fn variables_of<F: ExactField>(shifts: &[Shift<F>]) -> u32
     requires { sum_by (λ shift. form.width (shift_value F.value shift)) shifts.now ≤ 3000 }
     ensures { result ≡ sum_by (λ shift. form.width (shift_value F.value shift)) shifts.now }
@@ -83,7 +83,8 @@ pub(crate) fn variables_of<F: ExactField>(shifts: &[Shift<F>]) -> u32
     count
 }
 
-/// Shifts with the numbers of their first variables, from 1.
+/// Each column's shift with the number of the column's first variable; the variables are numbered
+/// from 1.
 pub(crate) fn placed<F: ExactField>(
     alloc: Global,
     shifts: &[Shift<F>],

@@ -27,7 +27,7 @@ fn rows_by_sense(sense: Sense) -> u32
     }
 }
 
-/// How many rows of the standard form rows have.
+/// How many rows of the standard form these rows have in all.
 pub(crate) fn count_rows<F: ExactField>(rows: &[Row<F>]) -> u32
     requires { count_of_rows rows.now ≤ 1500 }
     ensures { result ≡ count_of_rows rows.now }
@@ -63,7 +63,7 @@ fn dual_of<F: ExactField>(i: u64, sense: Sense, slacks: &[F], place: u32) -> Res
     }
 }
 
-/// The dual of each row by the coefficients of the slacks; negated when minimizing.
+/// The dual of each row, from the final coefficients of the slacks; negated when minimizing.
 pub(crate) fn duals_of<F: ExactField>(
     alloc: Global,
     rows: &[Row<F>],
@@ -129,9 +129,11 @@ fn reduced_of<F: ExactField>(
     }
 }
 
-/// The reduced cost of each column by the coefficients of all variables; negated when minimizing.
+/// The reduced cost of each column, from the final coefficients of all variables; negated when
+/// minimizing.
 ///
-/// `first` is the place of the first standard row that comes from a column.
+/// `first` is the position of the first row of the standard form that comes from a column's two
+/// bounds.
 pub(crate) fn reduced_costs_of<F: ExactField>(
     alloc: Global,
     bounded: &[Column<F>],

@@ -17,7 +17,7 @@ use gq_field::ExactField;
 use lp_core::{Lp, Sequence};
 use std::alloc::{AllocError, Global};
 
-/// A number unchanged when maximizing, and negated when minimizing.
+/// A number when maximizing, the negated number when minimizing.
 pub(crate) fn directed<F: ExactField>(maximize: bool, x: F) -> F
     ensures { F.value result ≡ form.directed maximize (F.value x) }
 {
@@ -152,17 +152,18 @@ fn formed<F: ExactField>(alloc: Global, lp: &Lp<F>) -> Result<Standard<F>, Stop>
     })
 }
 
-/// The standard form of a program: variables that are at least 0 express each column, each row is
-/// at most its right side, and the objective is to maximize, as in Chvatal, Linear Programming,
-/// chapter 1.
+/// The standard form of a program, as in Chvatal, Linear Programming, chapter 1: variables that are
+/// at least 0 express each column, each row is at most its right side, and the objective is to be
+/// maximized.
 ///
 /// A column with a lower bound is that bound plus a variable; one with only an upper bound is that
-/// bound less a variable; one without bounds is the difference of two variables. A `=l=` row keeps
-/// its sign, a `=g=` row is negated, an `=e=` row gives both, an `=n=` row none; after these, each
-/// column with two bounds gives a row. The bounds are taken out of the right sides.
+/// bound less a variable; one without bounds is the difference of two variables. A `=l=` row is
+/// kept, a `=g=` row is negated, an `=e=` row gives both, an `=n=` row gives none; after these,
+/// each column with two bounds gives a row. The bounds are subtracted from the right sides.
 ///
-/// `Crossed` has the first column whose lower bound exceeds its upper bound; it is looked for
-/// first. `Limit` has the first step that does not fit under the limit of the field.
+/// The error `Crossed` has the first column whose lower bound exceeds its upper bound; this error
+/// comes before any other. `Limit` has the first step that does not fit under the limit of the
+/// field, and `Memory` means out of memory.
 pub fn standard<F: ExactField>(alloc: Global, lp: &Lp<F>) -> Result<Standard<F>, Stop>
     requires well_formed { IsWellFormed F.value lp.now }
     ensures form { IfOk result (λ s. standard_value F.value s ≡ form.standard_form F.value lp.now) }

@@ -16,7 +16,7 @@ use gq_field::{ExactField, Limit};
 use lp_core::{Row, StepName};
 use std::alloc::Global;
 
-/// The number that a step gave, or the step if it does not fit.
+/// The number, or the step that does not fit as the error.
 pub(crate) fn or_step<F: ExactField>(
     answer: Result<F, Limit>,
     step: StepName,
@@ -50,7 +50,7 @@ fn level_of<F: ExactField>(j: u64, place: (u32, Shift<F>), values: &[F]) -> Resu
     }
 }
 
-/// The level of each column.
+/// The value of each column, from the values of all variables.
 pub(crate) fn levels_of<F: ExactField>(
     alloc: Global,
     columns: &[(u32, Shift<F>)],
@@ -117,7 +117,7 @@ fn row_level_of<F: ExactField>(i: u64, entries: &[(u32, F)], levels: &[F]) -> Re
     Ok(sum)
 }
 
-/// The sum of each row at levels.
+/// The sum of each row at the columns' values.
 pub(crate) fn row_levels_of<F: ExactField>(
     alloc: Global,
     rows: &[Row<F>],
@@ -160,7 +160,7 @@ fn change_of<F: ExactField>(j: u64, place: (u32, Shift<F>), changes: &[F]) -> Re
     }
 }
 
-/// The change of each column along a ray.
+/// The change of each column along a ray, from the changes of all variables.
 pub(crate) fn ray_of<F: ExactField>(
     alloc: Global,
     columns: &[(u32, Shift<F>)],

@@ -193,7 +193,8 @@ fn interrupted<F: ExactField>(
     })
 }
 
-/// The end of this kind, from what was read.
+/// The end of the final dictionary's kind, with the lists that the recovery computes from what was
+/// read.
 pub(crate) fn led_back<F: ExactField>(
     alloc: Global,
     lp: &Lp<F>,
@@ -217,17 +218,19 @@ pub(crate) fn led_back<F: ExactField>(
     }
 }
 
-/// The answer of a program by the final dictionary of its standard form, as in Chvatal, Linear
-/// Programming, chapters 1, 5 and 9.
+/// The end of a search for a program's answer, from the final dictionary of the program's standard
+/// form, as in Chvatal, Linear Programming, chapters 1, 5 and 9.
 ///
 /// `dict` has what was read from the dictionary. At `Optimal` the end has the levels of columns and
 /// rows, the duals of rows and the reduced costs of columns; at `Infeasible` factors of the rows;
-/// at `Unbounded` levels and a ray; at `Interrupted` the levels of phase 2. The coefficients of a
-/// row's slacks determine its dual. Those of a column's variables, and of the slack of the column's
-/// row, determine its reduced cost. When minimizing, both are negated.
+/// at `Unbounded` levels and a ray; at `Interrupted` the levels of phase 2. The dual of a row comes
+/// from the coefficients of the row's slacks. The reduced cost of a column comes from the
+/// coefficients of the column's variables and, if the column has two bounds, of the slack of the
+/// row for them. When minimizing, duals and reduced costs are negated.
 ///
-/// `Limit` has the first step that does not fit under the limit of the field, in the order levels,
-/// row levels, duals, reduced costs, ray.
+/// The error `Limit` has the first step that does not fit under the limit of the field, in the
+/// order levels, row levels, duals, reduced costs, ray. `Memory` means out of memory, and `Crossed`
+/// does not occur.
 pub fn recover<F: ExactField>(
     alloc: Global,
     lp: &Lp<F>,

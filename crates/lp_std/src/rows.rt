@@ -234,7 +234,7 @@ fn push_row<F: ExactField>(
     Ok(())
 }
 
-/// The standard rows of the program's rows.
+/// The rows of the standard form that come from the program's rows.
 pub(crate) fn rows_of<F: ExactField>(
     alloc: Global,
     columns: &[(u32, Shift<F>)],
@@ -303,7 +303,7 @@ fn push_bound_row<F: ExactField>(
     Ok(())
 }
 
-/// The rows, followed by those of columns with two bounds.
+/// These rows of the standard form, followed by those of columns with two bounds.
 pub(crate) fn with_bound_rows<F: ExactField>(
     alloc: Global,
     rows: Vec<StdRow<F>>,

@@ -1,4 +1,4 @@
-//! Why a program has no standard form, or an answer no recovery.
+//! Why a program has no standard form, or a final dictionary no recovery.
 ghost use Rattle.std.specs.Prelude.{◌≡◌};
 ghost use Rattle.lp_std.specs.declared.stop.Stop.TheVariants.{Limit, Memory};
 
@@ -6,10 +6,10 @@ use lp_core::StepName;
 use std::alloc::{AllocError, AllocFailed};
 use thiserror::Error;
 
-/// Why a program has no standard form, or an answer no recovery.
+/// Why a program has no standard form, or a final dictionary no recovery.
 #[derive(Clone, Copy, Debug, Error)]
 pub enum Stop {
-    /// The first step that exceeds the field's limit.
+    /// The first step whose result exceeds the field's limit.
     #[error(transparent)]
     Limit(StepName),
     /// The first column, from 0, whose lower bound exceeds its upper bound.

@@ -12,28 +12,32 @@ pub enum Shift<F> {
     Free,
 }
 
-/// Where a row of a standard form comes from; places count from 0.
+/// The row or column of the program from which a row of the standard form comes. Rows and columns
+/// are numbered from 0.
 #[derive(Clone, Copy)]
 pub enum Origin {
-    /// The row of the program at this place.
+    /// This row, as it is.
     Row(u64),
-    /// The row of the program at this place, its sign changed.
+    /// This row, negated.
     Negated(u64),
-    /// The column of the program at this place, which has two bounds.
+    /// This column, which has two bounds: their difference bounds its variable.
     Bound(u32),
 }
 
-/// A row of a standard form: the sum of its entries is at most the right side.
+/// A row of a standard form: the sum of its coefficients, each times its variable, is at most the
+/// right side.
 pub struct StdRow<F> {
-    /// The right side.
+    /// The right side of the row: the sum of the row's coefficients, each times its variable, is at
+    /// most this number.
     pub right: F,
-    /// The numbers of variables with their coefficients, by ascending number, without the slack.
+    /// The row's variables, by ascending number, each as its number and its coefficient. The slack
+    /// of the row is not among them.
     pub entries: Sequence<(u32, F)>,
-    /// Where the row comes from.
+    /// The row or column of the program from which this row of the standard form comes.
     pub origin: Origin,
 }
 
-// Written out, so that it is proved here alone, and not in each crate that lets one go.
+// Written out, so that it is proved once, and not in each crate that drops one.
 impl<F: Drop> Drop for StdRow<F> {
     fn drop(self) {
         let Self {
@@ -50,17 +54,20 @@ impl<F: Drop> Drop for StdRow<F> {
 /// The variables of the columns have the numbers from 1 in the order of the columns, two for a free
 /// column. The slacks follow in the order of the rows. Chvatal, Linear Programming, chapter 1.
 pub struct Standard<F> {
-    /// The shift of each column of the program.
+    /// How variables that are at least 0 express each column of the program, in the order of
+    /// columns.
     pub shifts: Sequence<Shift<F>>,
-    /// The rows: those of the program's rows, then those of its columns with two bounds.
+    /// The rows of the standard form: first those that come from the program's rows, then one for
+    /// each column of the program with two bounds.
     pub rows: Sequence<StdRow<F>>,
-    /// The coefficient of each variable in the objective, from number 1.
+    /// The coefficients of the objective, one for each variable that is no slack, from variable 1
+    /// on.
     pub objective: Sequence<F>,
-    /// The constant of the objective.
+    /// The constant term of the objective of the standard form.
     pub constant: F,
 }
 
-// Written out, so that it is proved here alone, and not in each crate that lets one go.
+// Written out, so that it is proved once, and not in each crate that drops one.
 impl<F: Drop> Drop for Standard<F> {
     fn drop(self) {
         let Self {
@@ -72,20 +79,24 @@ impl<F: Drop> Drop for Standard<F> {
     }
 }
 
-/// What is read from a final dictionary; the lists have one entry for each variable, from number 0.
+/// What is read from the dictionary with which a search ends. The lists of values and of costs have
+/// one entry for each variable, from number 0, and so has the list of the ray if there is a ray.
 pub struct Final<F> {
-    /// How the search ended.
+    /// How the search for an answer of the program ended.
     pub kind: EndKind,
-    /// The value of each variable at the dictionary's point.
+    /// The value of each variable at the dictionary's point, in the order of the variables' numbers
+    /// from 0.
     pub values: Sequence<F>,
-    /// The coefficient of each variable: in the row of variable 0 if infeasible, else in the
+    /// The coefficient of each variable, in the order of the variables' numbers from 0: its
+    /// coefficient in the row of variable 0 if the search ended as `Infeasible`, else that in the
     /// objective.
     pub costs: Sequence<F>,
-    /// The direction of unbounded gain if unbounded, else an empty list.
+    /// The change of each variable along the ray, in the order of the variables' numbers from 0, if
+    /// the search ended as `Unbounded`; else an empty list.
     pub ray: Sequence<F>,
 }
 
-// Written out, so that it is proved here alone, and not in each crate that lets one go.
+// Written out, so that it is proved once, and not in each crate that drops one.
 impl<F: Drop> Drop for Final<F> {
     fn drop(self) {
         let Self {
