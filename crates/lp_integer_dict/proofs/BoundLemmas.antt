@@ -13,8 +13,6 @@ use Rattle.gq_number.proofs.Gcd.{gcd_comm, gcd_pos, gcd-times_left, gcd-times_ri
 use Rattle.gq_number.proofs.Whole.{*ℤ_assoc, *ℤ_swap, *ℤ-+ℤ, cancel_ℤ, nat_abs-*ℤ}
 use Rattle.gq_number.proofs.Means.{Means, ratio_means}
 use Rattle.gq_number.proofs.Field.{means_same, means-*ℚ, means-neg_ℚ}
-use Rattle.gq_number.proofs.Quotients.{zero-/ℚ}
-use Rattle.gq_number.proofs.Naming.{ratio_is}
 use Rattle.gq_number.proofs.Signs.{≢-zero_above}
 use Rattle.gq_field.specs.Fits.{fits, sum_fits}
 use Rattle.gq_field.proofs.Sums.{none_large}

@@ -15,10 +15,10 @@ use Rattle.lp_fraction_dict.specs.Pivots.{IsLeaving}
 use Rattle.lp_integer_rows.specs.declared.line.Line.{Line}
 use Rattle.lp_integer_dict.specs.declared.choice.Candidate.{Candidate}
 use Rattle.lp_integers.specs.Lines.{whole_at}
+use Rattle.lp_integers.specs.Words.{IsFirstAbove as IsFirstPlaceAbove}
 use Rattle.lp_integer_rows.specs.Form.{wholes}
 use Rattle.lp_integer_dict.specs.InnerChoice.{fraction, IsFraction, ComesFirst, IsLesser, IsFirstOf, IsFirstAbove}
 use Rattle.lp_integer_rows.proofs.Plans.{index_get}
-use Rattle.lp_integers.proofs.Lines.{whole_past}
 use Rattle.lp_integer_rows.proofs.Lessening.{divided_line, compare_is}
 
 comes_first_itself : (x : Number) (v : ℕ) → ComesFirst x v x v
@@ -200,31 +200,11 @@ ratio_is_fraction numbers place column n r d e positive same above number consta
 
 -- ---- the first variable above 0
 
--- of the columns from 2 up to n none has a number above 0
-abbrev pub NoneAbove : Line → ℕ → Type 0
-NoneAbove l n = (v : ℕ) → 2 ≤ v → v < n → ¬ (pos 0 <ℤ whole_at (wholes l) v)
-
-pub none_more : (l : Line) (n : ℕ) → NoneAbove l n → ¬ (pos 0 <ℤ whole_at (wholes l) n) → NoneAbove l (n + 1)
-none_more l n h here v two less = elim (cases_lt v n) [
-  | inl before ↦ h v two before
-  | inr at ↦ let same : v ≡ n = omega arith in λ above. here (subst (λ k. pos 0 <ℤ whole_at (wholes l) k) same above)
-]
-
-pub found_above : (l : Line) (n q : ℕ) → NoneAbove l n → 2 ≤ n → q + 1 ≡ n → pos 0 <ℤ whole_at (wholes l) n → IsFirstAbove l (Some q)
-found_above l n q h two is above = (
-  omega arith,
-  subst (λ k. pos 0 <ℤ whole_at (wholes l) k) (sym is) above,
-  λ v some over. elim (cases_lt v q) [
-    | inl early ↦ absurd (h (v + 1) (omega arith) (omega arith) over)
-    | inr late ↦ late
-  ],
-)
-
-not_above_zero : ¬ (pos 0 <ℤ pos 0)
-not_above_zero h = omega (arith, ints)
-
-pub none_above : (l : Line) (n : ℕ) → length (wholes l) ≤ n → NoneAbove l n → IsFirstAbove l None
-none_above l n all h v some above = elim (cases_lt (v + 1) n) [
-  | inl less ↦ h (v + 1) (omega arith) less above
-  | inr past ↦ not_above_zero (subst (λ z. pos 0 <ℤ z) (whole_past (wholes l) (v + 1) (omega arith)) above)
-]
+-- the first place above 0 from column 2 on gives the first variable
+pub first_of_places : (l : Line) (p q : ℕ) → q + 1 ≡ p → IsFirstPlaceAbove (wholes l) 2 (Some p) → IsFirstAbove l (Some q)
+first_of_places l p q is known =
+    let two = known.0 in (
+      omega arith,
+      subst (λ k. pos 0 <ℤ whole_at (wholes l) k) (sym is) known.2,
+      λ v one above. let low = known.3 (v + 1) (omega arith) above in omega arith,
+    )

@@ -1,5 +1,5 @@
 -- A row in lowest terms.
-use Rattle.std.proofs.Common.{◌≡◌, ◌≢◌, ℕ, ◌+◌, ◌*◌, ◌/◌, ◌<◌, ◌≤◌, inl, inr, ℤ, pos, ◌-ℤ◌, ◌*ℤ◌, nat_abs, int_div, cond, List, length, Option, Some, None, refl, sym, ap, ap₂, ◌∙◌, subst, subst₂, arith, mul_comm}
+use Rattle.std.proofs.Common.{◌≡◌, ℕ, ◌*◌, ◌/◌, ◌<◌, ◌≤◌, inl, inr, ℤ, pos, ◌-ℤ◌, ◌*ℤ◌, nat_abs, int_div, cond, List, length, Option, Some, None, refl, sym, ap, ap₂, ◌∙◌, subst, arith, mul_comm}
 use Rattle.std.specs.Prelude.{slice_get}
 use Rattle.std.specs.Int.{◌∣◌}
 use Rattle.std.proofs.lemmas.Bool.{cases_eq, cases_lt, eq-eqb, ne_eqb}
@@ -7,14 +7,13 @@ use Rattle.std.proofs.Math.Nat.{div-mul_cancel, div-le_of_le-mul, dvd-mul_right,
 use Rattle.gq_number.specs.Number.{ratio}
 use Rattle.gq_number.proofs.Naming.{ratio-times}
 use Rattle.gq_number.proofs.Whole.{nat_abs-*ℤ, int_div-*ℤ}
-use Rattle.lp_integers.specs.Lines.{whole_at}
 use Rattle.lp_integers.proofs.Lines.{whole_past}
 use Rattle.lp_integers.proofs.Places.{times_none}
 use Rattle.lp_integer_rows.specs.declared.line.Line.{Line}
 use Rattle.lp_integer_dict.specs.declared.pairs.Measure.{Measure}
 use Rattle.lp_integer_rows.specs.Form.{wholes, lines_number, numbers_above, AreLines}
 use Rattle.lp_integer_dict.specs.WithinBound.{AreWhole, whole_or_zero, line_denominator, row_number}
-use Rattle.lp_integer_dict.specs.Pairs.{IsRowOver, IsLowestRow}
+use Rattle.lp_integer_dict.specs.Pairs.{IsLowestRow}
 use Rattle.lp_integer_dict.proofs.Pairing.{IsRow, rows_are}
 
 -- past the last column a row has 0

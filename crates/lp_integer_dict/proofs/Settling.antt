@@ -1,7 +1,6 @@
 -- Rows made apart, in order.
 use Rattle.std.proofs.Common.{◌≡◌, ℕ, ◌+◌, ◌<◌, inl, inr, List, length, Some, refl, sym, ◌∙◌, subst, arith}
-use Rattle.std.specs.Prelude.{slice_get, slice_set, IfOk, Result}
-use Rattle.std.proofs.Common.{Ok, Err}
+use Rattle.std.specs.Prelude.{slice_get, slice_set}
 use Rattle.std.proofs.lemmas.Bool.{cases_eq}
 use Rattle.lp_integer_rows.specs.declared.line.Line.{Line}
 use Rattle.lp_integer_rows.specs.Form.{IsLowest}

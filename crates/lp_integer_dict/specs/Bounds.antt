@@ -4,8 +4,8 @@ use Rattle.std.specs.Prelude.{◌≡◌, ◌≢◌, ℕ, ◌+◌, ◌*◌, ◌<�
 use Rattle.gq_number.specs.Number.{Number, ratio}
 use Rattle.lp_core.specs.Dictionary.{Dictionary}
 
--- Each row and the objective are integers over a common denominator; no magnitude and no
--- denominator exceeds the bound.
+-- Each row of the dictionary, and the objective, is a list of integers over a common denominator.
+-- No integer's magnitude and no denominator exceeds the bound.
 pub record IsBounded (d : Dictionary) (bound : ℕ) : Type 0 where
   pub number : ℕ → ℕ → ℤ
   pub denominator : ℕ → ℕ
@@ -14,12 +14,13 @@ pub record IsBounded (d : Dictionary) (bound : ℕ) : Type 0 where
   pub number_within : (i c : ℕ) → nat_abs (number i c) ≤ bound
   pub denominator_within : (i : ℕ) → denominator i ≤ bound
 
--- the numbers of rows: integers, each row over its denominator
+-- the number of row i at column c: the integer there over the row's denominator
 abbrev pub over_denominators : (ℕ → ℕ → ℤ) → (ℕ → ℕ) → ℕ → ℕ → Number
 over_denominators n d i c = ratio (n i c) (d i)
 
--- Stored rows with the greatest magnitude of each, such that the exchange of variable 0 into row k
--- stays within a bound; u is the coefficient of variable 0 in row k.
+-- Stored rows n over denominators d, with magnitudes at most `most`, such that the exchange of
+-- variable 0 into row k stays within the bound; u, above 0, is the integer of row k at column 1,
+-- that of variable 0.
 pub record DeferredNumbersWithin (n : ℕ → ℕ → ℤ) (d most : ℕ → ℕ) (bound k u : ℕ) : Type 0 where
   pub pivot : n k 1 ≡ pos u
   pub above : 0 < u

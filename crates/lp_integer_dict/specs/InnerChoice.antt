@@ -51,15 +51,6 @@ IsFirstAbove l None = (v : ℕ) → 1 ≤ v → ¬ (pos 0 <ℤ whole_at (wholes 
 IsFirstAbove l (Some q) =
     (1 ≤ q) × (pos 0 <ℤ whole_at (wholes l) (q + 1)) × ((v : ℕ) → 1 ≤ v → pos 0 <ℤ whole_at (wholes l) (v + 1) → q ≤ v)
 
--- the number at a column is above 0, and greater than that at the best column so far
-abbrev pub IsBetter : Line → ℕ → Option ℕ → Type 0
-IsBetter l column None = pos 0 <ℤ whole_at (wholes l) column
-IsBetter l column (Some best) = whole_at (wholes l) best <ℤ whole_at (wholes l) column
-
--- the better of the best column so far and another
-abbrev pub IsBest : Line → Option ℕ → ℕ → Option ℕ → Type 0
-IsBest l best column r = ((r ≡ Some column) × IsBetter l column best) ⊎ ((r ≡ best) × ¬ (IsBetter l column best))
-
 -- the variable from 1 on with the greatest integer above 0 in a row, and of equal ones the least;
 -- none if no integer is above 0
 abbrev pub IsGreatestAbove : Line → Option ℕ → Type 0

@@ -9,12 +9,13 @@ use Rattle.lp_integer_rows.specs.Form.{lines_number, numbers_above}
 use Rattle.lp_integer_dict.specs.WithinBound.{AreWhole, DeferredExceeds, ExchangeExceeds}
 use Rattle.lp_integer_dict.specs.Pairs.{IsSomePairCrowded}
 
--- the row of a number; past the last it is the objective
+-- the index of the stored row for row i of a dictionary: i if that is below `rows`, otherwise
+-- `rows`, the index of the objective
 abbrev pub row_of : ℕ → ℕ → ℕ
 row_of rows i = if nat_lt i rows then i else rows
 
--- the dictionary that stored rows mean, with the objective after the rows; variable 0 is deferred
--- in the row `deferred`
+-- the dictionary that stored rows mean, with the objective after the rows; if variable 0 is
+-- deferred in the row `deferred`, it results from the exchange of variable 0 into that row
 abbrev pub whole_dictionary : ℕ → List ℕ → List Line → Option ℕ → Dictionary
 whole_dictionary variables basic lines deferred =
     record {
@@ -23,8 +24,8 @@ whole_dictionary variables basic lines deferred =
       numbers = λ i c. numbers_above deferred (lines_number lines) (row_of (length basic) i) c;
     }
 
--- What is stored: the basic variables, the rows, the row in which variable 0 is deferred, and a
--- bound of all integers.
+-- What is stored: the basic variable of each row; the rows with the objective (`lines`); the row
+-- into which the exchange of variable 0 is deferred, if it is; and a bound of all integers.
 pub record WholeTableau : Type 0 where
   -- the greatest number of a variable
   pub variables : ℕ
@@ -33,13 +34,13 @@ pub record WholeTableau : Type 0 where
   pub deferred : Option ℕ
   pub bound : ℕ
 
--- the dictionary that is stored
+-- the dictionary that a tableau stores
 abbrev pub integer_dictionary : WholeTableau → Dictionary
 integer_dictionary t = whole_dictionary t.variables t.basic t.lines t.deferred
 
--- The invariant: there is a stored row for each basic variable and one for the objective, and they
--- stay within the bound; variable 0 is deferred exactly if it is basic; and the dictionary is one
--- of a program.
+-- The invariant of a tableau: it has a stored row for each basic variable and one for the
+-- objective, whose numbers stay within the bound; variable 0 is deferred exactly if it is basic, in
+-- its row; column numbers have at most 32 bits; and the dictionary satisfies `IsProper`.
 pub record IsWhole (t : WholeTableau) : Type 0 where
   pub sized : t.variables + 2 < 2 ^ 32
   pub paired : length t.lines ≡ length t.basic + 1
@@ -47,24 +48,26 @@ pub record IsWhole (t : WholeTableau) : Type 0 where
   pub is_deferred : IsPlace t.basic 0 t.deferred
   pub proper : IsProper (integer_dictionary t)
 
--- the place of the exchange of stored rows when the variable of row k leaves: the row in which
--- variable 0 is deferred, if it is
+-- the row in which the stored rows are exchanged when the variable of row k leaves: the row in
+-- which variable 0 is deferred, or k if variable 0 is not deferred
 abbrev pub kept_place : Option ℕ → ℕ → ℕ
 kept_place None k = k
 kept_place (Some z) k = z
 
--- the stored rows exceed the bound in a pivot by row k
+-- the stored rows might exceed the bound in the pivot p by row k: if variable 0 enters, when its
+-- exchange is deferred; if another variable enters, in the exchange of the stored rows
 abbrev pub AreCrowded : WholeTableau → Pivot → ℕ → Type 0
 AreCrowded t p k =
     ((p.enter ≡ 0) × DeferredExceeds k t.lines t.bound)
     ⊎ ((p.enter ≢ 0) × ExchangeExceeds t.bound (p.enter + 1) (kept_place t.deferred k) k t.lines)
 
--- a pivot by row k exceeds the bound: some row together with that row, or the stored rows
+-- the pivot p by row k might exceed the bound: by the estimate for some other row and row k, or in
+-- the stored rows
 abbrev pub IsPivotCrowded : WholeTableau → Pivot → ℕ → Type 0
 IsPivotCrowded t p k = IsSomePairCrowded t.lines t.deferred k (p.enter + 1) t.bound ⊎ AreCrowded t p k
 
--- the result of a pivot by row k: the exchanged dictionary, or the same one if its rows would
--- exceed the bound; the bound stays
+-- The result of the pivot p by row k. Ok: the exchanged dictionary. Err: the unchanged dictionary,
+-- because its stored rows might exceed the bound in the pivot. The bound is unchanged.
 abbrev pub IsPivoted : WholeTableau → Pivot → ℕ → Result WholeTableau WholeTableau → Type 0
 IsPivoted t p k r =
     IfOk r (λ after. (integer_dictionary after ≡ exchanged (integer_dictionary t) p.enter k) × (after.bound ≡ t.bound))

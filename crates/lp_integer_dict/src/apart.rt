@@ -1,4 +1,4 @@
-//! The exchange of rows made apart, and kept if the result stays within the bound.
+//! The exchange in a copy of the rows, which is used if the result stays within the bound.
 ghost use Rattle.std.specs.Prelude.{◌≡◌, ℕ, ◌<◌, ◌^◌, pos, true, false, length, IfOk, IsTrue, ◌↔◌, MatchOption};
 ghost use Rattle.gq_number.specs.Number.{whole};
 ghost use Rattle.gq_number.specs.Order.{◌<ℚ◌};
@@ -84,8 +84,10 @@ fn made_apart(
     Ok(Some(made))
 }
 
-/// Exchanges the rows at a place and a column, if the result stays within the bound; else they
-/// stay, and the answer is `false`. The error is out of memory.
+/// Makes the exchange of the row at `place` and the variable at `column` in a copy of the rows, and
+/// brings the result to lowest terms. `true`: it stays within the bound, and replaces the rows.
+/// `false`: it does not, or an estimate on the way has more than 127 bits; the rows are unchanged.
+/// The error is out of memory.
 pub(crate) fn turn_apart(
     alloc: Global,
     lines: &mut Vec<Line>,

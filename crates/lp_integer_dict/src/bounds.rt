@@ -1,4 +1,4 @@
-//! Whether the meaning of stored rows stays within the bound when variable 0 is deferred.
+//! Whether the dictionary that stored rows mean stays within the bound if variable 0 is deferred.
 ghost use Rattle.std.specs.Prelude.{◌≡◌, ℕ, ◌+◌, ◌-◌, ◌*◌, ◌<◌, ◌≤◌, ◌^◌, ◌-ℤ◌, ◌*ℤ◌, nat_abs, length, slice_get, Some, false, IsTrue, ◌↔◌};
 ghost use Rattle.lp_integer_rows.specs.declared.line.Line.{Line};
 ghost use Rattle.lp_integer_rows.specs.declared.line.Factors.{Factors};
@@ -37,7 +37,7 @@ fn magnitude_after(line: &Line, pivot: &Line, factors: Factors) -> u128
     left.unsigned_abs()
 }
 
-/// Whether the exchange of variable 0 into row `k` stays within the bound.
+/// Whether the exchange of variable 0 into row `k` keeps the estimate of each row within the bound.
 pub(crate) fn deferred_stays_within(lines: &[Line], k: usize, bound: u128) -> bool
     requires small { bound < 2 ^ 127 }
     requires lines { (width : ℕ) × AreLines width lines.now × (1 < width) }
@@ -100,8 +100,8 @@ fn keeps_each(lines: &[Line], plans: &[Factors], place: usize, leaving: usize, b
     true
 }
 
-/// Whether after an exchange by these factors the exchange of variable 0 into the leaving
-/// variable's row stays within the bound: first by one magnitude, then row by row.
+/// Whether after an exchange by these factors the exchange of variable 0 into the row `leaving`
+/// keeps each estimate within the bound: first by one magnitude for all rows, then row by row.
 pub(crate) fn deferred_stays_within_after(
     lines: &[Line],
     plans: &[Factors],
@@ -122,7 +122,7 @@ pub(crate) fn deferred_stays_within_after(
     keeps_each(lines, plans, place, leaving, bound)
 }
 
-/// Whether no integer of these rows exceeds a bound.
+/// Whether the stored greatest magnitude of each of these rows is at most the bound.
 pub(crate) fn all_within(lines: &[Line], bound: u128) -> bool
     ensures within { IsTrue result → AreBounded bound lines.now }
     ensures great { result ≡ false → IsSomeGreat bound lines.now }

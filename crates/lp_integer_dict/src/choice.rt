@@ -1,18 +1,18 @@
-//! The row that comes first, by the least constant or the least ratio; and the first variable whose
-//! number is above 0.
+//! The choice of the leaving variable, by the least constant or the least ratio; and the first
+//! variable whose number in a row is above 0.
 ghost use Rattle.std.specs.Prelude.{◌≡◌, ℕ, ◌+◌, ◌*◌, ◌<◌, ◌^◌, pos, length, MatchOption};
 ghost use Rattle.gq_number.specs.Number.{whole, ◌/ℚ◌};
 ghost use Rattle.gq_number.specs.Order.{◌<ℚ◌, number_cmp};
 ghost use Rattle.lp_integer_rows.specs.Form.{wholes, lines_number, numbers_above};
-ghost use Rattle.lp_integer_dict.specs.WithinBound.{AreWhole};
+ghost use Rattle.lp_integer_dict.specs.WithinBound.{AreWhole, IsNumberAbove};
 ghost use Rattle.lp_integer_dict.specs.InnerChoice.{fraction, IsFraction, IsLesser, IsLeastConstant, IsLeastRatio, IsFirstAbove};
 
-use crate::read::{Fraction, read};
-use lp_integer_rows::{Line, number_at};
+use crate::read::{Fraction, above_at, read, read_below};
+use lp_integer_rows::Line;
 use lp_integers::compare_ratios;
 use std::cmp::Ordering;
 
-/// A basic variable that may leave, and the number by which the least is chosen.
+/// A basic variable that may leave, and its measure: the constant or the ratio of its row.
 #[derive(Clone, Copy)]
 pub(crate) struct Candidate {
     pub(crate) measure: Fraction,
@@ -68,21 +68,24 @@ fn constant_below(lines: &[Line], deferred: Option<usize>, place: usize) -> Opti
     }
 }
 
-/// How far a row lets a variable rise, if its number in the row is above 0.
+/// How far a row lets a variable rise, if its number in the row is above 0; `above` is its integer
+/// in the row in which variable 0 is deferred.
 #[inline(always)]
 fn ratio_of(
     lines: &[Line],
     deferred: Option<usize>,
     place: usize,
     column: usize,
+    above: i128,
 ) -> Option<Fraction>
     requires lines { (width bound : ℕ) × AreWhole lines.now deferred width bound × (column < width) }
     requires within { place < length lines.now }
+    requires above { IsNumberAbove deferred lines.now column above }
     ensures { MatchOption result (¬ (whole (pos 0) <ℚ numbers_above deferred (lines_number lines.now) place column))
         (λ f. IsFraction f × (whole (pos 0) <ℚ numbers_above deferred (lines_number lines.now) place column)
         × (fraction f ≡ numbers_above deferred (lines_number lines.now) place 0 /ℚ numbers_above deferred (lines_number lines.now) place column)) }
 {
-    let number = read(lines, deferred, place, column);
+    let number = read_below(lines, deferred, place, column, above);
     if number.numerator <= 0 {
         return None;
     }
@@ -93,8 +96,8 @@ fn ratio_of(
     })
 }
 
-/// The basic variable of a row with the least constant below 0, and of several such the least. None
-/// if no constant is below 0.
+/// The basic variable of a row with the least constant below 0, and of several such the least.
+/// `None` if no constant is below 0. `deferred` is the row in which variable 0 is deferred.
 pub(crate) fn least_constant(
     lines: &[Line],
     deferred: Option<usize>,
@@ -115,9 +118,9 @@ pub(crate) fn least_constant(
     best
 }
 
-/// The basic variable of a row with the least ratio of its constant to its number at a column,
-/// among rows where that number is above 0, and of several such the least. None if there is no such
-/// row.
+/// The basic variable of a row with the least ratio of its constant to its number at `column`,
+/// among rows where that number is above 0, and of several such the least. `None` if there is no
+/// such row. `deferred` is the row in which variable 0 is deferred.
 pub(crate) fn least_ratio(
     lines: &[Line],
     deferred: Option<usize>,
@@ -128,9 +131,10 @@ pub(crate) fn least_ratio(
     requires paired { length lines.now ≡ length basic.now + 1 }
     ensures { IsLeastRatio (numbers_above deferred (lines_number lines.now)) basic.now column (length basic.now) result }
 {
+    let above = above_at(lines, deferred, column);
     let mut best = None;
     for place in 0..basic.len() {
-        let Some(measure) = ratio_of(lines, deferred, place, column) else {
+        let Some(measure) = ratio_of(lines, deferred, place, column, above) else {
             continue;
         };
         let variable = basic[place];
@@ -139,16 +143,13 @@ pub(crate) fn least_ratio(
     best
 }
 
-/// The least variable from 1 on whose number in a row is above 0.
+/// The least variable from 1 on whose number in a row is above 0; `None` if there is none.
 pub(crate) fn first_above(line: &Line) -> Option<u32>
     requires { length (wholes line.now) < 2 ^ 32 }
     ensures { IsFirstAbove line.now result }
 {
-    for column in 2..line.numbers.len() {
-        let number = number_at(line, column);
-        if number > 0 {
-            return Some(column as u32 - 1);
-        }
+    match line.numbers.first_above(2) {
+        Some(column) => Some(column as u32 - 1),
+        None => None,
     }
-    None
 }

@@ -8,12 +8,16 @@ ghost use Rattle.lp_integer_dict.specs.Bounds.{IsBounded, DeferredNumbersWithin,
 ghost use Rattle.lp_integer_dict.specs.Pairs.{IsPairWithin};
 ghost use Rattle.lp_integer_rows.specs.Turning.{turned_at, swapped, with_row_negated, IsDeferredExchange};
 
-/// Two exchanges in one row equal the second alone; and an exchange of a dictionary with variable 0
-/// deferred is an exchange of the stored rows: Chvatal, Linear Programming, chapter 3.
+/// What an exchange does to the stored rows while variable 0 is deferred, that is, basic in a row
+/// `k` of the dictionary, but not in the stored rows, where its exchange is not made yet: Chvatal,
+/// Linear Programming, chapter 3.
 ///
-/// If a variable other than 0 leaves, by row `l`, the stored rows are exchanged in the row `k` of
-/// variable 0, and then the rows `k` and `l` change places. If variable 0 leaves, nothing is
-/// deferred any longer, and its column is 0.
+/// An exchange in row `k` at column `q` divides row `k` by its number at `q` and makes the numbers
+/// at `q` of all other rows 0 (`turned_at`). Of two exchanges in one row only the second counts
+/// (`own`). Let a variable other than 0 leave, by row `l`: then the stored rows are exchanged in
+/// row `k`, rows `k` and `l` are swapped, and variable 0 remains deferred (`other`, `above`). A row
+/// and its negation give the same exchange (`negated`). If variable 0 leaves, it is no longer
+/// deferred, and its column is 0 (`leaves`).
 pub fn turning_laws()
     ensures own { (n : ℕ → ℕ → Number) (z q k i c : ℕ) → n k z ≢ whole (pos 0) → n k q ≢ whole (pos 0) →
         turned_at (turned_at n z k) q k i c ≡ turned_at n q k i c }
@@ -29,13 +33,15 @@ pub fn turning_laws()
         (exchanged d q k).numbers i c ≡ (if c == 1 then whole (pos 0) else turned_at kept (q + 1) k i c) }
 {}
 
-/// A row of integers over one denominator remains one in an exchange, and two ratios compare as the
-/// cross products of their integers: Edmonds, Systems of distinct representatives and linear
-/// algebra; Bareiss, Sylvester's identity and multistep integer-preserving Gaussian elimination.
+/// In an exchange a row of integers over one denominator becomes such a row again (`divided` for
+/// the row of the leaving variable, `lessened` for any other), and two ratios of a ratio test
+/// compare as the cross products of their integers (`compare_most`, `compare_below`): Edmonds,
+/// Systems of distinct representatives and linear algebra; Bareiss, Sylvester's identity and
+/// multistep integer-preserving Gaussian elimination.
 ///
-/// A row has `n` over `d`, and `f` for the entering variable. The row of the leaving variable has
-/// `x` over `e`, and `p` for the entering variable. `a` and `b` are `p` and `f` without their
-/// common factor `g`.
+/// In `lessened` a row has the integer `n` at some column and `f` for the entering variable, over
+/// the denominator `d`. The row of the leaving variable has `x` at that column and `p` for the
+/// entering variable, over `e`. `a` and `b` are `p` and `f` divided by a common factor `g`.
 pub fn line_laws()
     ensures divided { (x : ℤ) (p e : ℕ) → 0 < e → 0 < p → ratio x e /ℚ ratio (pos p) e ≡ ratio x p }
     ensures lessened { (n x f b : ℤ) (d e p a g : ℕ) → 0 < d → 0 < e → 0 < a → 0 < g → p ≡ a * g → f ≡ b *ℤ pos g →
@@ -46,10 +52,17 @@ pub fn line_laws()
         (ratio r d /ℚ ratio (pos a) d <ℚ ratio s e /ℚ ratio (pos b) e) ↔ ((r *ℤ pos b) <ℤ (s *ℤ pos a)) }
 {}
 
-/// When steps on integer rows over common denominators fit. In a ratio test all do if no integer of
-/// a row exceeds the limit. In an exchange all do if each row, together with the row of the leaving
-/// variable, stays within the limit: if that row has `nk` and `p` at two columns over `dk`, and the
-/// other has `ni` and `f` over `di`, both steps at the first column fit.
+/// When the steps on rows of integers over common denominators fit under a limit. All steps of a
+/// ratio test fit if no integer and no denominator of the dictionary exceeds the limit (`ratios`).
+///
+/// The estimate for two rows is an upper bound, computed from the greatest magnitudes of both, for
+/// the integers of the row that an exchange makes of them. Let one row have `ni` and `f` at two
+/// columns over the denominator `di`, and the row of the leaving variable `nk` and `p` there over
+/// `dk`. If the estimate for the two rows is at most the limit, both steps of the exchange at the
+/// first column, a product and a difference, fit (`pairs`).
+///
+/// Let variable 0 be deferred in stored rows. The dictionary that they mean has integers within a
+/// bound if the estimates of the deferred exchange are within it (`above`).
 pub fn bound_laws()
     ensures ratios { (limit bound : ℕ) (d : Dictionary) (pivot q : ℕ) → bound ≤ limit → IsBounded d bound →
         AllFit (ratio_steps limit pivot d q) }
@@ -61,9 +74,11 @@ pub fn bound_laws()
         DeferredNumbersWithin n d most bound k u → IsDeferredExchange above (over_denominators n d) k → IsBounded above bound }
 {}
 
-/// How a dictionary with variable 0 deferred is read from the stored rows, if the coefficient `u`
-/// of variable 0 in row `k` is above 0: in row `k` the integers stay and `u` is the denominator,
-/// and another row is exchanged.
+/// The numbers of a dictionary, computed from the stored rows, if the exchange of variable 0 into
+/// row `k` is deferred. Column `z` is that of variable 0, and row `k` has the integer `u` there,
+/// which is above 0. Row `k` of the dictionary has the stored integers over `u` (`own`). Any other
+/// row has, over `u` times its denominator, the difference of `u` times its integers and its
+/// integer at `z` times the integers of row `k` (`other`).
 pub fn reading_laws()
     ensures own { (n : ℕ → ℕ → ℤ) (d : ℕ → ℕ) (z k u c : ℕ) → n k z ≡ pos u → 0 < u → ((i : ℕ) → 0 < d i) →
         turned_at (over_denominators n d) z k k c ≡ ratio (n k c) u }

@@ -1,4 +1,4 @@
-//! Whether each step of an exchange fits, by a bound for each two rows.
+//! Whether each step of an exchange fits, by an estimate for two rows at a time.
 ghost use Rattle.std.specs.Prelude.{◌≡◌, ◌≢◌, ℕ, ◌<◌, ◌≤◌, ◌^◌, pos, ◌*ℤ◌, nat_abs, length, false, IsTrue, IfSome};
 ghost use Rattle.std.specs.Int.{◌∣◌};
 ghost use Rattle.lp_integer_rows.specs.Form.{AreBounded};
@@ -214,7 +214,8 @@ fn pair_fits(
     is_pair_within(lowest, lowest_leaving, bound)
 }
 
-/// Whether each row, together with that of the leaving variable, stays within the bound.
+/// Whether, for each row and that of the leaving variable, the estimate of an exchange at `column`
+/// is at most the bound.
 pub(crate) fn pairs_fit(
     lines: &[Line],
     deferred: Option<usize>,

@@ -95,9 +95,11 @@ fn turn_planned(
     Ok(true)
 }
 
-/// Exchanges the rows at a place and a column, if it and what follows it stay within the bound:
-/// first by their factors, then by the rows that it makes. Else the rows mean the same numbers as
-/// before, and the answer is `false`. The error is out of memory.
+/// Makes the exchange of the row at `place` and the variable at `column`, whose number there is
+/// above 0. It is made if by its factors it stays within the bound, and with it a deferred exchange
+/// of variable 0 into the row `leaving`; or if the rows that it makes do. Then the answer is
+/// `true`. Else it is `false`, and the rows mean the same numbers as before. The error is out of
+/// memory.
 pub(crate) fn turn_lines(
     alloc: Global,
     lines: &mut Vec<Line>,

@@ -21,12 +21,14 @@ use lp_integer_rows::{Line, forget_zero, raise_at, reduce_lines, swap_lines};
 use std::alloc::{AllocError, Global};
 use std::marker::Model;
 
-/// A dictionary: an equation for each basic variable, and the objective, each as integers over one
-/// denominator within a bound (Chvatal, Linear Programming, chapters 2 and 3; Edmonds, Systems of
-/// distinct representatives and linear algebra).
+/// A dictionary of the simplex method: an equation for each basic variable, which is its row, and
+/// one for the objective. Each is stored as integers over one denominator, none above a bound in
+/// magnitude (Chvatal, Linear Programming, chapters 2 and 3; Edmonds, Systems of distinct
+/// representatives and linear algebra).
 ///
-/// Variable 0 is the artificial variable of phase 1. While it is basic, the stored rows are those
-/// of the dictionary in which it is not: its exchange is deferred.
+/// Variable 0 is the artificial variable of phase 1. While it is basic, its exchange is deferred:
+/// the stored rows are those of a dictionary in which it is not basic, and each number that is read
+/// is computed from them as if the exchange were made.
 #[derive(Drop)]
 pub struct Whole {
     variables: u32,
@@ -59,9 +61,10 @@ fn place_among(basic: &[u32], variable: u32) -> Option<usize>
 }
 
 impl Whole {
-    /// The dictionary of these rows: one for each basic variable, and after them the objective.
-    /// None exactly if the greatest magnitude of some row exceeds the bound. Variable 0 is not
-    /// basic.
+    /// The dictionary with these rows, one for each variable of `basic`, in the same order, and
+    /// after them the objective. `variables` is the greatest number of a variable. Variable 0 is
+    /// not basic. `None` exactly if the greatest magnitude that is stored with some row exceeds
+    /// `bound`.
     pub fn of_lines(variables: u32, basic: Vec<u32>, lines: Vec<Line>, bound: u128) -> Option<Whole>
         requires sized { variables + 2 < 2 ^ 32 }
         requires small { bound < 2 ^ 127 }
@@ -86,29 +89,30 @@ impl Whole {
         Some(whole)
     }
 
-    /// The greatest number of a variable: the variables are 0 and those up to it.
+    /// The greatest number of a variable. The variables have the numbers from 0 to this one.
     pub fn variables(&self) -> u32
         ensures { result ≡ self.now.variables }
     {
         self.variables
     }
 
-    /// The basic variable of each row.
+    /// The number of the basic variable of each row, in the order of the rows.
     pub fn basic(&self) -> &[u32]
         ensures { result.now ≡ self.now.basic }
     {
         self.basic.as_slice()
     }
 
-    /// The place of a variable's row; none if it is not basic.
+    /// The index, from 0, of the row in which variable `v` is basic; `None` if it is not basic.
     pub fn place_of(&self, v: u32) -> Option<usize>
         ensures { IsPlace self.now.basic v result }
     {
         place_among(self.basic.as_slice(), v)
     }
 
-    /// The number at a column of a row, or of the objective, which follows the rows. Column 0 is
-    /// the constant, and variable v has column v + 1.
+    /// The number at a column of a row. `row` counts the rows from 0, and the objective follows the
+    /// last one. Column 0 is the constant, and variable v has column v + 1. Numerator and
+    /// denominator are at most the bound in magnitude.
     #[inline(always)]
     pub fn number(&self, row: usize, column: usize) -> Fraction
         requires row { row ≤ length self.now.basic }
@@ -120,8 +124,9 @@ impl Whole {
         read(self.lines.as_slice(), self.deferred, row, column)
     }
 
-    /// The opening pivot of Bland's choice, if one is required: variable 0 enters, and of the
-    /// variables with the least constant, which is below 0, the least leaves.
+    /// The opening pivot, in which variable 0 enters, by Bland's choice: of the basic variables
+    /// with the least constant, which is below 0, the one with the least number leaves. `None`
+    /// exactly if no constant is below 0, so that no opening pivot is required.
     pub fn opening(&self) -> Option<Pivot>
         ensures { MatchOption result (¬ (OpeningIsRequired (integer_dictionary self.now)))
             (λ p. ((k : ℕ) × IsOpening (integer_dictionary self.now) p k) ×
@@ -136,7 +141,9 @@ impl Whole {
         }
     }
 
-    /// The least variable that improves. None exactly if no variable improves.
+    /// The variable with the least number of those that improve, that is, have a coefficient above
+    /// 0 in the objective of the phase; `None` exactly if none improves. The opening pivot must not
+    /// be required.
     pub fn entering(&self) -> Option<u32>
         requires { ¬ (OpeningIsRequired (integer_dictionary self.now)) }
         ensures { MatchOption result ((v : ℕ) → ¬ (Improves (integer_dictionary self.now) v))
@@ -149,7 +156,9 @@ impl Whole {
     }
 
     /// The variable that improves with the greatest coefficient in the priced row, and of several
-    /// such the least. None exactly if nothing improves. It passes over that row once.
+    /// such variables the one with the least number; `None` exactly if none improves. The priced
+    /// row, which is visited once, is that of variable 0 while variable 0 is basic, and otherwise
+    /// the objective. The opening pivot must not be required.
     pub fn greatest(&self) -> Option<u32>
         requires { ¬ (OpeningIsRequired (integer_dictionary self.now)) }
         ensures { MatchOption result ((v : ℕ) → ¬ (Improves (integer_dictionary self.now) v)) (HasGreatest (integer_dictionary self.now)) }
@@ -160,8 +169,9 @@ impl Whole {
         }
     }
 
-    /// The least of the variables that tie for leaving when `enter` enters. None exactly if no row
-    /// limits it.
+    /// The variable that leaves when the variable `enter`, which improves, enters: of those that
+    /// tie in the ratio test the one with the least number. `None` exactly if no row limits the
+    /// rise of `enter`. All steps of the test fit under any limit that is at least the bound.
     pub fn leaving(&self, enter: u32) -> Option<u32>
         requires { Improves (integer_dictionary self.now) enter }
         ensures choice { IsLeaving (integer_dictionary self.now) enter result }
@@ -416,10 +426,14 @@ impl Whole {
         Ok(same)
     }
 
-    /// The dictionary after a legal pivot, in which `p.enter` is basic in the row of `p.leave`, as
-    /// the inner `Ok`. Variable 0 is dropped when it leaves. The inner `Err` is the same
-    /// dictionary, if some row together with that of `p.leave`, or the stored rows, exceed the
-    /// bound: their integers, or those of a step on the way, might.
+    /// The dictionary after the pivot `p`, which is legal, as the inner `Ok`: `p.enter` becomes
+    /// basic in the row of `p.leave`. If variable 0 leaves, it is removed. All steps of the
+    /// exchange fit under any limit that is at least the bound.
+    ///
+    /// The inner `Err` is the dictionary, unchanged. It is returned if the integers of the result,
+    /// or of a step that leads to it, might exceed the bound. Estimates decide this, upper bounds
+    /// that are computed from the greatest magnitudes of the rows: one for each row paired with the
+    /// row of `p.leave`, and those for the stored rows.
     ///
     /// The error is out of memory; the dictionary is then lost.
     pub fn pivot(self, alloc: Global, p: Pivot) -> Result<Result<Whole, Whole>, AllocError>
@@ -442,7 +456,10 @@ impl Whole {
         Ok(Err(same))
     }
 
-    /// The invariant of each such dictionary: a law, which does nothing.
+    /// A law, with an empty body: what is true of each dictionary of this type. Every basic
+    /// variable occurs in its own row alone, with coefficient 1. The number of a column has at most
+    /// 32 bits, and the bound has at most 127 bits. The number at a row after the last one is that
+    /// of the objective, and the number at a column after the last variable's is 0.
     pub fn keeps(&self)
         ensures proper { IsProper (integer_dictionary self.now) }
         ensures sized { self.now.variables + 2 < 2 ^ 32 }

@@ -1,4 +1,5 @@
--- A dictionary as integer rows, with variable 0 deferred.
+-- A dictionary as integer rows. Variable 0 may be deferred: the stored rows are those before
+-- variable 0 enters, and its exchange is made as numbers are read.
 use Rattle.std.specs.Prelude.{◌≡◌, ◌≢◌, ℕ, ◌+◌, ◌*◌, ◌<◌, ◌≤◌, ◌^◌, ◌==◌, ◌⊎◌, if◌then◌else◌, ℤ, pos, ◌-ℤ◌, ◌*ℤ◌, ◌<ℤ◌, nat_abs, List, length, slice_get, Option, Some, None}
 use Rattle.std.specs.Int.{◌∣◌}
 use Rattle.gq_number.specs.Number.{Number, whole, ratio, ◌-ℚ◌, ◌*ℚ◌, ◌/ℚ◌, neg_ℚ}
@@ -9,7 +10,7 @@ use Rattle.lp_integers.specs.Lines.{whole_at, AreWithin, AreDivided}
 use Rattle.lp_integer_rows.specs.Turning.{turned_at}
 use Rattle.lp_integer_rows.specs.Marks.{AreMarked, AreLeading}
 
--- the integers of a row
+-- the integers of a row, by column
 abbrev pub wholes : Line → List ℤ
 wholes l = l.numbers
 
@@ -18,7 +19,8 @@ abbrev pub line_number : Line → ℕ → Number
 line_number l c = ratio (whole_at (wholes l) c) l.denominator
 
 -- The invariant of a row: its integers and its denominator have at most 127 bits, none exceeds its
--- greatest magnitude, each integer other than 0 has a mark, and the first two are stored once more.
+-- stored greatest magnitude (`most`), each column with an integer other than 0 has a mark, and the
+-- first two integers are stored once more.
 pub record IsLine (l : Line) : Type 0 where
   pub positive : 0 < l.denominator
   pub numbers_within : AreWithin (wholes l) l.most
@@ -27,7 +29,7 @@ pub record IsLine (l : Line) : Type 0 where
   pub marked : AreMarked (wholes l) l.marks
   pub leading : AreLeading (wholes l) l.leading
 
--- a and b are p and f without their greatest common divisor, and a is above 0.
+-- a and b are p and f divided by their greatest common divisor, and a is above 0.
 pub record AreFactors (f p a b : ℤ) : Type 0 where
   pub shared : ℕ
   pub greatest : shared ≡ gcd (nat_abs f) (nat_abs p)
@@ -36,27 +38,31 @@ pub record AreFactors (f p a b : ℤ) : Type 0 where
   pub first : a *ℤ pos shared ≡ p
   pub second : b *ℤ pos shared ≡ f
 
--- The factors of a row in an exchange at a column, and a magnitude, within a bound, that none of
--- its results exceeds.
+-- The factors f by which a row and the pivot row are multiplied in an exchange at a column, and
+-- `most`, the estimate of the resulting row's integers: the sum, over these two rows, of the
+-- factor's magnitude times the row's stored greatest magnitude. It is at most the bound.
 pub record IsPlanned (bound column : ℕ) (line pivot : Line) (f : Factors) : Type 0 where
   pub factors : AreFactors (whole_at (wholes line) column) (whole_at (wholes pivot) column) f.line f.pivot
   pub most : f.most ≡ nat_abs f.line * line.most + nat_abs f.pivot * pivot.most
   pub within : f.most ≤ bound
 
--- Some integer of a row might exceed a bound in an exchange at a column.
+-- In an exchange at a column the estimate of a row's integers exceeds the bound. The estimate is
+-- the sum, over the row and the pivot row, of the factor's magnitude times the row's stored
+-- greatest magnitude.
 pub record IsCrowded (bound column : ℕ) (line pivot : Line) : Type 0 where
   pub of_line : ℤ
   pub of_pivot : ℤ
   pub factors : AreFactors (whole_at (wholes line) column) (whole_at (wholes pivot) column) of_line of_pivot
   pub no_bound : bound < nat_abs of_line * line.most + nat_abs of_pivot * pivot.most
 
--- A row is within its factors: its integers do not exceed their magnitude, and no integer exceeds
--- the one they make.
+-- The row `after` an exchange keeps the estimate of its factors f: its stored greatest magnitude is
+-- at most that of f, and no integer exceeds, in magnitude, the difference of products by which it
+-- is computed.
 pub record IsWithinFactors (before pivot after : Line) (f : Factors) : Type 0 where
   pub most : after.most ≤ f.most
   pub magnitudes : (c : ℕ) → nat_abs (whole_at (wholes after) c) ≤ nat_abs (f.line *ℤ whole_at (wholes before) c -ℤ f.pivot *ℤ whole_at (wholes pivot) c)
 
--- A row means the same numbers as another, by integers of no greater magnitude.
+-- The row `after` means the same numbers as `before`, by integers of no greater magnitude.
 pub record IsSameLine (before after : Line) : Type 0 where
   pub is_line : IsLine after
   pub sized : length (wholes after) ≡ length (wholes before)
@@ -64,25 +70,26 @@ pub record IsSameLine (before after : Line) : Type 0 where
   pub most : after.most ≤ before.most
   pub magnitudes : (c : ℕ) → nat_abs (whole_at (wholes after) c) ≤ nat_abs (whole_at (wholes before) c)
 
--- only 1 divides all integers and the denominator of a row
+-- no divisor but 1 divides all integers of a row and its denominator
 abbrev pub IsReducedLine : Line → Type 0
 IsReducedLine l = (d : ℕ) → d ∣ l.denominator → AreDivided (wholes l) d → d ≡ 1
 
--- A row is in lowest terms: only 1 divides all its integers and its denominator, and its greatest
--- magnitude is one of theirs.
+-- A row is in lowest terms: no divisor but 1 divides all its integers and its denominator, and its
+-- stored greatest magnitude is that of one of them.
 pub record IsLowest (l : Line) : Type 0 where
   pub reduced : IsReducedLine l
   pub least : (m : ℕ) → AreWithin (wholes l) m → l.denominator ≤ m → l.most ≤ m
 
--- A row is another less a multiple of the pivot row, which makes its entry at the column 0; and it
--- is within its factors.
+-- The row `after` is `before` less the multiple of the pivot row that makes its number at `column`
+-- zero, and it keeps the estimate of its factors.
 pub record IsLessenedLine (column : ℕ) (before pivot after : Line) (f : Factors) : Type 0 where
   pub is_line : IsLine after
   pub sized : length (wholes after) ≡ length (wholes before)
   pub numbers : (c : ℕ) → line_number after c ≡ line_number before c -ℚ line_number before column *ℚ (line_number pivot c /ℚ line_number pivot column)
   pub within : IsWithinFactors before pivot after f
 
--- A row is another divided by its number at the column, by integers of no greater magnitude.
+-- The row `after` is `before` divided by its number at `column`, by integers of no greater
+-- magnitude.
 pub record IsDividedLine (column : ℕ) (before after : Line) : Type 0 where
   pub is_line : IsLine after
   pub sized : length (wholes after) ≡ length (wholes before)
@@ -90,7 +97,7 @@ pub record IsDividedLine (column : ℕ) (before after : Line) : Type 0 where
   pub most : after.most ≤ before.most
   pub magnitudes : (c : ℕ) → nat_abs (whole_at (wholes after) c) ≤ nat_abs (whole_at (wholes before) c)
 
--- A row has 0 in place of its coefficient of variable 0.
+-- The row `after` is `before` with the coefficient 0 for variable 0, which is at column 1.
 pub record IsForgottenLine (before after : Line) : Type 0 where
   pub is_line : IsLine after
   pub sized : length (wholes after) ≡ length (wholes before)
@@ -98,7 +105,7 @@ pub record IsForgottenLine (before after : Line) : Type 0 where
   pub numbers : (c : ℕ) → line_number after c ≡ (if c == 1 then whole (pos 0) else line_number before c)
 
 -- The row `after` is `before` or its negative, whichever has a positive coefficient of variable 0,
--- which is at index 1, after the constant.
+-- which is at column 1, after the constant.
 pub record IsRaisedLine (before after : Line) : Type 0 where
   pub is_line : IsLine after
   pub sized : length (wholes after) ≡ length (wholes before)
@@ -107,15 +114,15 @@ pub record IsRaisedLine (before after : Line) : Type 0 where
   pub magnitudes : (c : ℕ) → nat_abs (whole_at (wholes after) c) ≡ nat_abs (whole_at (wholes before) c)
   pub numbers : ((c : ℕ) → line_number after c ≡ line_number before c) ⊎ ((c : ℕ) → line_number after c ≡ neg_ℚ (line_number before c))
 
--- each of these is a row with `width` columns
+-- each of these has the invariant of a row, and `width` columns
 abbrev pub AreLines : ℕ → List Line → Type 0
 AreLines width lines = (i : ℕ) (l : Line) → slice_get lines i ≡ Some l → IsLine l × (length (wholes l) ≡ width)
 
--- no integer and no denominator of these rows exceeds a bound
+-- the stored greatest magnitude (`most`) of each of these rows is at most the bound
 abbrev pub AreBounded : ℕ → List Line → Type 0
 AreBounded bound lines = (i : ℕ) (l : Line) → slice_get lines i ≡ Some l → l.most ≤ bound
 
--- Rows mean the same numbers as others, by integers of no greater magnitude.
+-- The rows `after` mean the same numbers as `before`, by integers of no greater magnitude.
 pub record AreSameLines (before after : List Line) : Type 0 where
   pub sized : length after ≡ length before
   pub each : (i : ℕ) (x y : Line) → slice_get before i ≡ Some x → slice_get after i ≡ Some y → IsSameLine x y
@@ -124,35 +131,37 @@ pub record AreSameLines (before after : List Line) : Type 0 where
 abbrev pub AreLowest : List Line → Type 0
 AreLowest lines = (i : ℕ) (l : Line) → slice_get lines i ≡ Some l → IsLowest l
 
--- Each row has 0 in place of its coefficient of variable 0.
+-- Each row of `after` is that of `before` with the coefficient 0 for variable 0.
 pub record AreForgotten (before after : List Line) : Type 0 where
   pub sized : length after ≡ length before
   pub each : (i : ℕ) (x y : Line) → slice_get before i ≡ Some x → slice_get after i ≡ Some y → IsForgottenLine x y
 
--- The row of a place is raised, the others are as before.
+-- Row k is negated if its coefficient of variable 0 was negative; the other rows are unchanged.
 pub record IsRaisedAt (k : ℕ) (before after : List Line) : Type 0 where
   pub sized : length after ≡ length before
   pub here : (x y : Line) → slice_get before k ≡ Some x → slice_get after k ≡ Some y → IsRaisedLine x y
   pub others : (i : ℕ) → i ≢ k → slice_get after i ≡ slice_get before i
 
--- Two rows have changed places.
+-- Rows k and l have changed places; the other rows are unchanged.
 pub record AreSwapped (k l : ℕ) (before after : List Line) : Type 0 where
   pub sized : length after ≡ length before
   pub first : slice_get after k ≡ slice_get before l
   pub second : slice_get after l ≡ slice_get before k
   pub others : (i : ℕ) → i ≢ k → i ≢ l → slice_get after i ≡ slice_get before i
 
--- the factors that leave a row as it is
+-- the factors of an exchange that leave a row as it is: 1 for the row, and 0 for the pivot row
 abbrev pub own_factors : Line → Factors
 own_factors l = record { line = pos 1; pivot = pos 0; most = l.most }
 
--- The first n rows have factors; the pivot row's leave it as it is.
+-- The factors of the first n rows for an exchange at a column; those of the pivot row, which is at
+-- `place`, leave it as it is.
 pub record ArePlanned (bound column place : ℕ) (lines : List Line) (pivot : Line) (plans : List Factors) (n : ℕ) : Type 0 where
   pub sized : length plans ≡ n
   pub each : (i : ℕ) (l : Line) (f : Factors) → i ≢ place → slice_get lines i ≡ Some l → slice_get plans i ≡ Some f → IsPlanned bound column l pivot f
   pub own : (f : Factors) → slice_get plans place ≡ Some f → f ≡ own_factors pivot
 
--- Some integer of a row other than the pivot row might exceed a bound.
+-- In an exchange at a column the estimate of the integers of some row, other than the pivot row at
+-- `place`, exceeds the bound.
 pub record IsSomeCrowded (bound column place : ℕ) (lines : List Line) (pivot : Line) : Type 0 where
   pub at : ℕ
   pub line : Line
@@ -160,41 +169,45 @@ pub record IsSomeCrowded (bound column place : ℕ) (lines : List Line) (pivot :
   pub there : slice_get lines at ≡ Some line
   pub crowded : IsCrowded bound column line pivot
 
--- Each of the first n rows has lost its multiple of the pivot row; the row at the pivot's place and
--- the others are unchanged.
+-- From each of the first n rows the multiple of the pivot row is subtracted that makes the row's
+-- number at `column` zero. The row at `place`, where the pivot row is, and the rows after the first
+-- n are unchanged.
 pub record AreLinesExchanged (column place : ℕ) (pivot : Line) (plans : List Factors) (before after : List Line) (n : ℕ) : Type 0 where
   pub sized : length after ≡ length before
   pub each : (i : ℕ) (x y : Line) (f : Factors) → i < n → i ≢ place → slice_get before i ≡ Some x → slice_get after i ≡ Some y → slice_get plans i ≡ Some f → IsLessenedLine column x pivot y f
   pub left : (i : ℕ) → n ≤ i → slice_get after i ≡ slice_get before i
   pub kept : slice_get after place ≡ slice_get before place
 
--- The factors of all rows for an exchange at a column, at which the pivot row is above 0.
+-- The factors of all rows for an exchange at `column`, where the integer of the pivot row, which is
+-- at `place`, is above 0. The bound has at most 127 bits.
 pub record IsPlan (bound column place : ℕ) (lines : List Line) (pivot : Line) (plans : List Factors) : Type 0 where
   pub small : bound < 2 ^ 127
   pub above : pos 0 <ℤ whole_at (wholes pivot) column
   pub planned : ArePlanned bound column place lines pivot plans (length lines)
 
--- each of these except the one at the place is a row with `width` columns
+-- each of these, except the one at `place`, has the invariant of a row, and `width` columns
 abbrev pub AreLinesBut : ℕ → ℕ → List Line → Type 0
 AreLinesBut place width lines = (i : ℕ) (l : Line) → i ≢ place → slice_get lines i ≡ Some l → IsLine l × (length (wholes l) ≡ width)
 
--- the number of a row at a column; 0 without a row
+-- the number of a row at column c; 0 without a row
 abbrev pub number_or_none : Option Line → ℕ → Number
 number_or_none None c = whole (pos 0)
 number_or_none (Some l) c = line_number l c
 
--- the numbers of rows, by row and column
+-- the number of row i at column c; 0 past the last row
 abbrev pub lines_number : List Line → ℕ → ℕ → Number
 lines_number lines i c = number_or_none (slice_get lines i) c
 
--- Rows are others after the exchange at a place and a column, within their factors.
+-- The rows `after` result from `before` by the exchange of the row at `place` and the variable at
+-- `column`, and keep the estimates of their factors.
 pub record AreTurned (column place : ℕ) (plans : List Factors) (before after : List Line) : Type 0 where
   pub sized : length after ≡ length before
   pub are_lines : (width : ℕ) → AreLines width before → AreLines width after
   pub numbers : (i c : ℕ) → i < length before → lines_number after i c ≡ turned_at (lines_number before) column place i c
   pub within : (i : ℕ) (p x y : Line) (f : Factors) → slice_get before place ≡ Some p → slice_get before i ≡ Some x → slice_get after i ≡ Some y → slice_get plans i ≡ Some f → IsWithinFactors x p y f
 
--- the numbers that stored rows mean: as they are, or after the exchange of variable 0 into row k
+-- the number that stored rows mean in row i at column c: the stored one if nothing is deferred,
+-- else the one after the deferred exchange of variable 0 into row k
 abbrev pub numbers_above : Option ℕ → (ℕ → ℕ → Number) → ℕ → ℕ → Number
 numbers_above None kept i c = kept i c
 numbers_above (Some k) kept i c = turned_at kept 1 k i c

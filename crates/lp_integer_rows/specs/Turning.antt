@@ -4,21 +4,22 @@ use Rattle.std.specs.Prelude.{◌≡◌, ◌≢◌, ℕ, ◌==◌, pos, if◌the
 use Rattle.gq_number.specs.Number.{Number, whole, ◌-ℚ◌, ◌*ℚ◌, ◌/ℚ◌, neg_ℚ}
 use Rattle.lp_core.specs.Dictionary.{Dictionary}
 
--- the numbers after an exchange at row k and column q: row k is divided by its number at q, and
--- each other row loses the multiple of it that makes its number at q 0
+-- the number of row i at column c after an exchange at row k and column q: row k is divided by its
+-- number at q, and from each other row the multiple of it is subtracted that makes its number at q
+-- zero
 abbrev pub turned_at : (ℕ → ℕ → Number) → ℕ → ℕ → ℕ → ℕ → Number
 turned_at n q k i c = if i == k then n k c /ℚ n k q else n i c -ℚ n i q *ℚ (n k c /ℚ n k q)
 
--- the numbers with two rows exchanged
+-- the number of row i at column c after rows k and l have changed places
 abbrev pub swapped : (ℕ → ℕ → Number) → ℕ → ℕ → ℕ → ℕ → Number
 swapped n k l i c = n (if i == k then l else (if i == l then k else i)) c
 
--- the numbers with one row negated
+-- the number of row i at column c after row k is negated
 abbrev pub with_row_negated : (ℕ → ℕ → Number) → ℕ → ℕ → ℕ → Number
 with_row_negated n k i c = if i == k then neg_ℚ (n i c) else n i c
 
--- A dictionary is above the stored numbers: it is the result of the exchange of variable 0 into row
--- k.
+-- The dictionary d is what the stored numbers `kept` mean: the result of the exchange of variable 0
+-- into row k, whose coefficient of variable 0, at column 1, is not 0.
 pub record IsDeferredExchange (d : Dictionary) (kept : ℕ → ℕ → Number) (k : ℕ) : Type 0 where
   pub some : kept k 1 ≢ whole (pos 0)
   pub numbers : (i c : ℕ) → d.numbers i c ≡ turned_at kept 1 k i c

@@ -1,5 +1,5 @@
-//! What deferring variable 0 means for the stored rows: its row has its coefficient above 0, and
-//! once it has left there is none.
+//! How stored rows change with the deferred exchange of variable 0: the coefficient of variable 0
+//! in its row is made positive, and once variable 0 has left its coefficients are made 0.
 ghost use Rattle.std.specs.Prelude.{◌≡◌, ◌≢◌, ℕ, ◌<◌, pos, length, slice_get, Some};
 ghost use Rattle.lp_integer_rows.specs.declared.line.Line.{Line};
 ghost use Rattle.lp_integers.specs.Lines.{whole_at};
@@ -20,7 +20,7 @@ fn forget(line: &mut Line)
     line.leading = Leading::of(&line.numbers);
 }
 
-/// Sets each row's coefficient of variable 0 to 0.
+/// Replaces the coefficient of variable 0 in each row with 0.
 pub fn forget_zero(lines: &mut Vec<Line>)
     requires { (width : ℕ) × AreLines width lines.old.items × (1 < width) }
     ensures { AreForgotten lines.old.items lines.new.items }
@@ -45,7 +45,8 @@ fn raise(line: &mut Line)
     }
 }
 
-/// Negates the row at a place if its coefficient of variable 0 is below 0.
+/// Negates row `k`, counted from 0, if its coefficient of variable 0 is negative; that coefficient
+/// is required not to be 0.
 pub fn raise_at(lines: &mut Vec<Line>, k: usize)
     requires lines { (width : ℕ) × AreLines width lines.old.items × (1 < width) }
     requires within { k < length lines.old.items }
@@ -56,7 +57,7 @@ pub fn raise_at(lines: &mut Vec<Line>, k: usize)
     raise(line);
 }
 
-/// Exchanges two rows.
+/// Exchanges the places of two different rows, `k` and `l`, counted from 0.
 pub fn swap_lines(alloc: Global, lines: &mut Vec<Line>, k: usize, l: usize)
     requires first { k < length lines.old.items }
     requires second { l < length lines.old.items }

@@ -11,9 +11,11 @@ use lp_integers::Numbers;
 use std::alloc::{AllocError, Global};
 use std::mem;
 
-/// The factors of each row in an exchange at a place and a column. None if an integer might exceed
-/// the bound. The row of the place gets factors that leave it as it is. The only error is out of
-/// memory.
+/// The factors for the exchange of the pivot row, which is at `place` in `lines` and passed as
+/// `pivot` too, and the variable at `column`: for each row the factor of the row and that of the
+/// pivot row. The factors for the pivot row itself leave it unchanged. `None` means that, for some
+/// other row, the estimate of the integers after the exchange exceeds `bound`. The only error is
+/// out of memory.
 pub fn plan_lines(
     alloc: Global,
     lines: &[Line],
@@ -73,7 +75,7 @@ fn apply_plans(
     Ok(())
 }
 
-/// Puts a row at a place, and returns the one that it replaces.
+/// Replaces the row at `place` with this one, and returns the row that was there.
 pub(crate) fn put_line(lines: &mut Vec<Line>, place: usize, line: Line) -> Line
     requires { place < length lines.old.items }
     ensures given { slice_get lines.old.items place ≡ Some result }
@@ -95,7 +97,15 @@ fn turn_pivot(alloc: Global, line: &mut Line, column: usize) -> Result<(), Alloc
     reduce(alloc, line)
 }
 
-/// A row without numbers.
+/// Stores only the integers of a row that are not 0, if `count`, the number of these, is at most
+/// one in 16 of its columns. The integers stay. The only error is out of memory.
+fn spare_zeros(alloc: Global, line: &mut Line, count: usize) -> Result<(), AllocError>
+    ensures { IfOk result (λ _. line.new ≡ line.old) }
+{
+    line.numbers.spare_zeros(alloc, count)
+}
+
+/// A row without columns.
 pub(crate) fn no_line(alloc: Global) -> Line {
     Line {
         numbers: Numbers::empty(alloc),
@@ -109,8 +119,10 @@ pub(crate) fn no_line(alloc: Global) -> Line {
     }
 }
 
-/// The exchange of all rows at a place and a column, by their factors; it divides rows with great
-/// or scaled integers. The only error is out of memory.
+/// Exchanges the basic variable of the row at `place` and the variable at `column`, in all rows.
+/// `plans` has the factors of each row, in the order of the rows. A row whose integers are great or
+/// were multiplied is also divided, integers and denominator, by its common divisor, so that its
+/// fractions stay the same. The only error is out of memory.
 pub fn exchange_lines(
     alloc: Global,
     lines: &mut Vec<Line>,
@@ -125,14 +137,15 @@ pub fn exchange_lines(
 {
     let mut pivot = put_line(lines, place, no_line(alloc));
     let places = pivot.numbers.places(alloc)?;
+    spare_zeros(alloc, &mut pivot, places.len())?;
     apply_plans(alloc, lines, plans, place, &pivot, places.as_slice())?;
     turn_pivot(alloc, &mut pivot, column)?;
     let _ = put_line(lines, place, pivot);
     Ok(())
 }
 
-/// Divides each row by the common divisor of its integers and denominator. The only error is out of
-/// memory.
+/// Divides the integers and the denominator of each row by their greatest common divisor. The
+/// fractions that they represent stay the same. The only error is out of memory.
 pub fn reduce_lines(alloc: Global, lines: &mut Vec<Line>) -> Result<(), AllocError>
     requires { (width : ℕ) × AreLines width lines.old.items }
     ensures { IfOk result (λ _. AreSameLines lines.old.items lines.new.items) }

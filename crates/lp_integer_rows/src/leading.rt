@@ -1,11 +1,13 @@
-//! The first two integers of a row beside its list: those that each pivot reads of each row.
+//! The first two integers of a row, which are stored once more since each pivot reads them of each
+//! row.
 ghost use Rattle.std.specs.Prelude.{◌≡◌};
 ghost use Rattle.lp_integers.specs.Lines.{whole_at};
 ghost use Rattle.lp_integer_rows.specs.Marks.{AreLeading};
 
 use lp_integers::Numbers;
 
-/// The constant of a row and its integer of variable 0.
+/// The first two integers of a row: that of its constant, `constant`, and that of its coefficient
+/// of variable 0, `zero`.
 #[derive(Clone, Copy)]
 pub struct Leading {
     pub constant: i128,
@@ -23,7 +25,7 @@ fn number_or_zero(numbers: &Numbers, place: usize) -> i128
 }
 
 impl Leading {
-    /// Those of a list.
+    /// The first two integers of this list.
     pub(crate) fn of(numbers: &Numbers) -> Leading
         ensures { AreLeading numbers.now result }
     {

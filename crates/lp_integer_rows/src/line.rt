@@ -9,7 +9,9 @@ use crate::marks::Marks;
 use lp_integers::{Numbers, gcd, greatest, sum_within};
 use std::alloc::{AllocError, Global};
 
-/// A row: integers over one denominator, a bound of their magnitudes, marks on their columns, and
+/// A row of fractions, one for each column: their numerators, which are integers, over one
+/// denominator. Stored with them are a bound `most`, which neither the denominator nor the
+/// magnitude of any integer exceeds; marks on the columns whose integer may be other than 0; and
 /// the first two integers once more.
 #[derive(Drop)]
 pub struct Line {
@@ -21,8 +23,9 @@ pub struct Line {
 }
 
 impl Line {
-    /// The row of these integers, one for each column, over this denominator. The only error is out
-    /// of memory.
+    /// The row of these integers, one for each column, over this denominator. The denominator and
+    /// the magnitudes of the integers are required to have at most 127 bits. The `most` of the row
+    /// is the greatest of them. The only error is out of memory.
     pub fn new(alloc: Global, numbers: Vec<i128>, denominator: u128) -> Result<Line, AllocError>
         requires positive { 0 < denominator }
         requires small { denominator < 2 ^ 127 }
@@ -44,31 +47,36 @@ impl Line {
         })
     }
 
-    /// The row of these integers of one word each, one for each column, over this denominator, with
-    /// these marks.
-    pub(crate) fn of_words(words: Vec<i64>, denominator: u128, marks: Marks) -> Line
+    /// The row of these integers of one word each, one for each column, over this denominator. Each
+    /// column without one of these marks has the integer 0. The error is out of memory.
+    pub(crate) fn of_words(
+        alloc: Global,
+        words: Vec<i64>,
+        denominator: u128,
+        marks: Marks,
+    ) -> Result<Line, AllocError>
         requires positive { 0 < denominator }
         requires small { denominator < 2 ^ 127 }
         requires words_small { AreWithin words.items (2 ^ 63 - 1) }
         requires marked { AreMarked words.items marks }
-        ensures line { IsLine result }
-        ensures numbers { wholes result ≡ words.items }
-        ensures denominator { result.denominator ≡ denominator }
+        ensures line { IfOk result IsLine }
+        ensures numbers { IfOk result (λ l. wholes l ≡ words.items) }
+        ensures denominator { IfOk result (λ l. l.denominator ≡ denominator) }
     {
-        let numbers = Numbers::of_words(words);
+        let numbers = Numbers::of_words(alloc, words)?;
         let greatest = numbers.greatest();
         let leading = Leading::of(&numbers);
-        Line {
+        Ok(Line {
             numbers,
             denominator,
             most: greatest.max(denominator),
             marks,
             leading,
-        }
+        })
     }
 }
 
-/// A copy of the row. The error is out of memory.
+/// A copy of a row. The error is out of memory.
 pub fn copied_line(alloc: Global, line: &Line) -> Result<Line, AllocError>
     ensures { IfOk result (λ copy. copy ≡ line.now) }
 {
@@ -82,8 +90,9 @@ pub fn copied_line(alloc: Global, line: &Line) -> Result<Line, AllocError>
     })
 }
 
-/// What a row and the pivot row are multiplied by in an exchange; and a magnitude that no result in
-/// the row exceeds.
+/// The factors of a row in an exchange: the row is multiplied by `line`, and from it the pivot row
+/// multiplied by `pivot` is subtracted. `most` is a number that no integer of the resulting row
+/// exceeds in magnitude.
 #[derive(Clone, Copy)]
 pub struct Factors {
     pub line: i128,
@@ -92,7 +101,7 @@ pub struct Factors {
 }
 
 impl Factors {
-    /// The factors that leave a row as it is.
+    /// The factors that leave a row as it is: 1 for the row, 0 for the pivot row.
     pub(crate) fn of_own(line: &Line) -> Factors
         ensures { result ≡ own_factors line.now }
     {
@@ -104,7 +113,7 @@ impl Factors {
     }
 }
 
-/// The integer of a row at a column.
+/// The integer that a row has at a column, counted from 0.
 #[inline(always)]
 pub fn number_at(line: &Line, column: usize) -> i128
     requires { column < length (wholes line.now) }
@@ -113,8 +122,9 @@ pub fn number_at(line: &Line, column: usize) -> i128
     line.numbers.at(column)
 }
 
-/// The integer of a row at a column. The list is read only if the column has a mark and is not one
-/// of the first two.
+/// The integer that a row has at a column, counted from 0. It is read from the list of integers
+/// only if the column has a mark and is not one of the first two columns, which makes the call fast
+/// for most columns.
 #[inline(always)]
 pub fn marked_number_at(line: &Line, column: usize) -> i128
     requires line { IsLine line.now }
@@ -133,7 +143,7 @@ pub fn marked_number_at(line: &Line, column: usize) -> i128
     0
 }
 
-/// The magnitude of the integer of a row at a column.
+/// The magnitude of the integer that a row has at a column, counted from 0.
 #[inline(always)]
 pub fn magnitude_at(line: &Line, column: usize) -> u128
     requires line { IsLine line.now }
@@ -144,8 +154,9 @@ pub fn magnitude_at(line: &Line, column: usize) -> u128
     marked_number_at(line, column).unsigned_abs()
 }
 
-/// The integer `p` of the pivot row and the integer `f` of another, without their greatest common
-/// divisor.
+/// `p` and `f`, in this order, each divided by their greatest common divisor. `p`, above 0, is the
+/// pivot row's integer at the column of the entering variable, and `f` is another row's integer
+/// there.
 pub fn reduced_pair(f: i128, p: i128) -> (i128, i128)
     requires { pos 0 <ℤ p }
     ensures { AreFactors f p result.0 result.1 }
@@ -158,8 +169,9 @@ pub fn reduced_pair(f: i128, p: i128) -> (i128, i128)
     (p / divisor, f / divisor)
 }
 
-/// A bound of the magnitudes of a row times `a` less another times `b`, from the greatest
-/// magnitudes of both. None if it exceeds `bound`.
+/// A number that the magnitude of no integer of `a` times one row minus `b` times another exceeds:
+/// |`a`| times `most` plus |`b`| times `other`, where `most` and `other` bound the magnitudes of
+/// the integers of the two rows. `None` if that number exceeds `bound`.
 pub fn within_bound(a: i128, most: u128, b: i128, other: u128, bound: u128) -> Option<u128>
     requires { bound < 2 ^ 127 }
     ensures { MatchOption result (bound < nat_abs a * most + nat_abs b * other) (λ m. (m ≡ nat_abs a * most + nat_abs b * other) × (m ≤ bound)) }
@@ -189,7 +201,8 @@ fn plan_some(line: &Line, column: usize, pivot: &Line, bound: u128) -> Option<Fa
     }
 }
 
-/// The factors of a row in an exchange at a column. None if an integer might exceed the bound.
+/// The factors of a row in an exchange at `column`. `None` means that the estimate of the row's
+/// integers exceeds the bound.
 pub(crate) fn plan(line: &Line, column: usize, pivot: &Line, bound: u128) -> Option<Factors>
     requires small { bound < 2 ^ 127 }
     requires line { IsLine line.now }
@@ -323,9 +336,9 @@ fn reduce_if_useful(alloc: Global, line: &mut Line, factor: i128) -> Result<(), 
     reduce(alloc, line)
 }
 
-/// Subtracts from a row the multiple of the pivot row by these factors, and divides the row if its
-/// integers are great or were multiplied. `places` are the places at which the pivot row is not 0.
-/// The only error is out of memory.
+/// Subtracts from a row the multiple of the pivot row by these factors, and divides the row by its
+/// common divisor if its integers are great or were multiplied. `places` are the columns at which
+/// the pivot row is not 0. The only error is out of memory.
 pub(crate) fn apply(
     alloc: Global,
     line: &mut Line,
@@ -349,8 +362,8 @@ pub(crate) fn apply(
     reduce_if_useful(alloc, line, factors.line)
 }
 
-/// Divides a row by the greatest common divisor of its integers and denominator. The error is out
-/// of memory.
+/// Divides a row by the greatest common divisor of its integers and its denominator, which leaves
+/// its numbers unchanged. The error is out of memory.
 pub(crate) fn reduce(alloc: Global, line: &mut Line) -> Result<(), AllocError>
     requires { IsLine line.old }
     ensures same { IfOk result (λ _. IsSameLine line.old line.new) }
@@ -367,7 +380,9 @@ pub(crate) fn reduce(alloc: Global, line: &mut Line) -> Result<(), AllocError>
     Ok(())
 }
 
-/// Brings a row to lowest terms, and measures it. The error is out of memory.
+/// Divides the integers and the denominator of a row by their greatest common divisor, so that the
+/// fractions that they represent stay the same. Then sets `most`, which may be any bound before, to
+/// the greatest magnitude among the integers and the denominator. The error is out of memory.
 pub fn settle(alloc: Global, line: &mut Line) -> Result<(), AllocError>
     requires { IsLine line.old }
     ensures same { IfOk result (λ _. IsSameLine line.old line.new) }
@@ -379,8 +394,8 @@ pub fn settle(alloc: Global, line: &mut Line) -> Result<(), AllocError>
     Ok(())
 }
 
-/// Divides a row by its number at a column, which is above 0: the integers stay, and the one at the
-/// column becomes the denominator.
+/// Divides a row by its number at `column`, which is above 0: its integers are unchanged, and the
+/// one at the column becomes the denominator.
 pub(crate) fn divide_pivot(line: &mut Line, column: usize)
     requires line { IsLine line.old }
     requires within { column < length (wholes line.old) }

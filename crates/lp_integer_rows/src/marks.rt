@@ -2,8 +2,8 @@
 ghost use Rattle.std.specs.Prelude.{◌≡◌, ◌≢◌, ℕ, false};
 ghost use Rattle.lp_integer_rows.specs.Marks.{IsClear};
 
-/// Which columns of a row may have a number other than 0: one mark for all columns with the same
-/// remainder by 128.
+/// Which columns of a row may have an integer other than 0. Each of the 128 bits is one mark for
+/// all columns whose numbers leave the same remainder when divided by 128.
 #[derive(Clone, Copy)]
 pub struct Marks {
     pub bits: u128,
@@ -22,7 +22,8 @@ impl Marks {
         Marks { bits: u128::MAX }
     }
 
-    /// Whether there is a mark on a column.
+    /// Whether there is a mark on a column. If there is none, the row that has these marks has the
+    /// integer 0 at the column.
     #[inline(always)]
     pub fn includes(self, column: usize) -> bool
         ensures { result ≡ false → IsClear self column }
@@ -31,7 +32,7 @@ impl Marks {
         (self.bits >> place) % 2 != 0
     }
 
-    /// These marks and others.
+    /// The marks of both: on each column with a mark of one of them.
     pub(crate) fn joined(self, others: Marks) -> Marks
         ensures own { (c : ℕ) → IsClear result c → IsClear self c }
         ensures others { (c : ℕ) → IsClear result c → IsClear others c }
@@ -41,7 +42,7 @@ impl Marks {
         }
     }
 
-    /// These marks and one on a column.
+    /// These marks, and also one on this column.
     pub(crate) fn and_at(self, column: usize) -> Marks
         ensures own { (c : ℕ) → IsClear result c → IsClear self c }
         ensures column { (c : ℕ) → IsClear result c → c ≢ column }

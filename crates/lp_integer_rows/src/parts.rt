@@ -1,4 +1,4 @@
-//! An integer row from a row that is given by fractions.
+//! An integer row from entries that are fractions.
 ghost use Rattle.std.specs.Prelude.{◌≡◌, ◌≢◌, ℕ, ◌*◌, ◌/◌, ◌<◌, ◌≤◌, ◌^◌, ◌-◌, nat_abs, length, slice_get, Some, IfOk, IfSome, MatchOption};
 ghost use Rattle.std.specs.Int.{◌∣◌};
 ghost use Rattle.gq_number.specs.Number.{ratio};
@@ -13,14 +13,15 @@ use crate::marks::Marks;
 use lp_integers::{gcd, product_within, zero_words};
 use std::alloc::{AllocError, Global};
 
-/// An entry of a row: column 0 is the constant, and variable v is column v + 1.
+/// An entry of a row: a fraction at a column. Column 0 is that of the constant, and variable v has
+/// the column `v + 1`.
 #[derive(Clone, Copy)]
 pub struct Part {
-    /// The column.
+    /// The column of the entry: 0 for the constant, `v + 1` for the coefficient of variable v.
     pub column: u32,
-    /// The integer above.
+    /// The numerator of the fraction at the column.
     pub numerator: i128,
-    /// The denominator.
+    /// The denominator of the fraction at the column.
     pub denominator: u128,
 }
 
@@ -158,8 +159,9 @@ fn marks_of(parts: &[Part]) -> Marks
     marks
 }
 
-/// The row with `width` columns that has these parts, and 0 elsewhere. None if, over each common
-/// multiple of the denominators that has at most 127 bits, the integer of some part has more. The
+/// The row with `width` columns that has the entries `parts`, which are at distinct columns, and 0
+/// at every other column. `None` if no common multiple of at most 127 bits of their denominators
+/// can be the denominator of the row: for each, some integer of the row has more than 127 bits. The
 /// only error is out of memory.
 pub fn line_of_parts(
     alloc: Global,
@@ -177,8 +179,8 @@ pub fn line_of_parts(
     };
     if let Some(words) = fill_words(alloc, width, parts, multiple)? {
         let marks = marks_of(parts);
-        let line = Line::of_words(words, multiple, marks);
-        return Ok(Some(line));
+        let made = Line::of_words(alloc, words, multiple, marks)?;
+        return Ok(Some(made));
     }
     let filled = fill(alloc, width, parts, multiple)?;
     let Some(numbers) = filled else {

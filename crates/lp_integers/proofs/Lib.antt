@@ -1,3 +1,8 @@
 pub mod Lines
-pub mod Crossing
 pub mod Places
+pub mod Words
+pub mod Differences
+pub mod Clearing
+pub mod Each
+pub mod Picking
+pub mod Topmost

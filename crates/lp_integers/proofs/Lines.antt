@@ -134,7 +134,7 @@ magnitude_negated n = omega (arith, ints)
 pub negated_within : (before after : List ℤ) (most : ℕ) → AreNegated before after → AreWithin before most → AreWithin after most
 negated_within before after most h within = λ c. subst (λ m. m ≤ most) (sym (ap nat_abs (h.numbers c) ∙ magnitude_negated (whole_at before c))) (within c)
 
-times_grow : (m k : ℕ) → 0 < k → m ≤ m * k
+pub times_grow : (m k : ℕ) → 0 < k → m ≤ m * k
 times_grow m zero some = absurd (omega arith)
 times_grow m (suc k) some = omega arith
 

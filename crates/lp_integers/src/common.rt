@@ -4,11 +4,10 @@ ghost use Rattle.gq_number.specs.Gcd.{gcd};
 
 use gq_field::gcd_of_words;
 
-/// The greatest number of one word.
+/// The greatest unsigned number of one word, which has 64 bits.
 pub(crate) const WORD: u128 = u64::MAX as u128;
 
-/// The greatest common divisor, by Euclid's algorithm until both numbers fit in a word; the divisor
-/// of 0 and `b` is `b`.
+/// The greatest common divisor of `a` and `b`, by Euclid's algorithm; that of 0 and `b` is `b`.
 pub fn gcd(a: u128, b: u128) -> u128
     ensures { result ≡ gcd a b }
 {
@@ -25,7 +24,8 @@ pub fn gcd(a: u128, b: u128) -> u128
     gcd_of_words(x as u64, y as u64) as u128
 }
 
-/// The greatest common divisor of a number and a divisor, of which the number is often a multiple.
+/// The greatest common divisor of a number and a divisor. It is fast if the number is a multiple of
+/// the divisor, as is often so.
 #[inline(always)]
 pub(crate) fn shared_by(n: u64, divisor: u64) -> u64
     requires { 0 < divisor }

@@ -1,4 +1,4 @@
-//! How two ratios compare, without a product that could overflow.
+//! The comparison of two ratios, without a product that could overflow.
 ghost use Rattle.std.specs.Prelude.{◌≡◌, ◌<◌, ◌*◌, pos, ◌*ℤ◌};
 ghost use Rattle.std.specs.Ordering.{nat_cmp, int_cmp};
 
@@ -48,7 +48,7 @@ fn compare_magnitudes(a: u128, b: u128, c: u128, d: u128) -> Ordering
     }
 }
 
-/// How the ratios of `r` to `a` and of `s` to `b` compare: as `r` times `b` and `s` times `a` do.
+/// How the quotient `r` / `a` compares with the quotient `s` / `b`.
 #[inline(always)]
 pub fn compare_ratios(r: i128, a: u128, s: i128, b: u128) -> Ordering
     requires first { 0 < a }

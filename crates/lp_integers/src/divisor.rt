@@ -17,8 +17,8 @@ fn inverse_of(odd: i64) -> i64 {
     inverse
 }
 
-/// A divisor, with the power of 2 in it and the inverse of its odd part. By these a quotient takes
-/// two products and no division.
+/// A divisor, with the power of 2 in it and the inverse of its odd factor. With these a quotient
+/// takes two products and no division.
 #[derive(Clone, Copy)]
 pub(crate) struct Divisor {
     pub(crate) value: u64,
@@ -27,7 +27,7 @@ pub(crate) struct Divisor {
 }
 
 impl Divisor {
-    /// This divisor.
+    /// The divisor with this value.
     pub(crate) fn of(value: u64) -> Divisor
         ensures { result.value ≡ value }
     {
@@ -66,7 +66,8 @@ impl Divisor {
         }
     }
 
-    /// The greatest common divisor of a number and this divisor, of which it is often a multiple.
+    /// The greatest common divisor of a number and this divisor. It is fast if the number is a
+    /// multiple of the divisor, as is often so.
     #[inline(always)]
     pub(crate) fn shared_with(self, n: i64) -> Divisor
         requires { 0 < self.value }

@@ -5,6 +5,7 @@
 mod common;
 mod compare;
 mod divisor;
+mod few;
 mod kept;
 mod narrow;
 mod numbers;

@@ -8,7 +8,7 @@ use std::alloc::{AllocError, Global};
 
 /// The product of two whole numbers.
 #[inline(always)]
-fn product(a: i64, n: i64) -> i64
+pub(crate) fn product(a: i64, n: i64) -> i64
     requires { nat_abs (a *ℤ n) < 2 ^ 63 }
     ensures { result ≡ a *ℤ n }
 {
@@ -17,7 +17,7 @@ fn product(a: i64, n: i64) -> i64
 
 /// The difference of two whole numbers.
 #[inline(always)]
-fn difference(a: i64, b: i64) -> i64
+pub(crate) fn difference(a: i64, b: i64) -> i64
     requires { nat_abs (a -ℤ b) < 2 ^ 63 }
     ensures { result ≡ a -ℤ b }
 {
@@ -26,7 +26,7 @@ fn difference(a: i64, b: i64) -> i64
 
 /// The greater of a magnitude and that of a number.
 #[inline(always)]
-fn greater(most: u64, n: i64) -> u64
+pub(crate) fn greater(most: u64, n: i64) -> u64
     ensures above { (most ≤ result) × (nat_abs n ≤ result) }
     ensures one { (result ≡ most) ⊎ (result ≡ nat_abs n) }
 {
@@ -50,7 +50,7 @@ pub(crate) fn copied(alloc: Global, numbers: &[i64]) -> Result<Vec<i64>, AllocEr
     Ok(list)
 }
 
-/// Zeros of one word each. The error is out of memory.
+/// A list of `count` zeros of one word each. The error is out of memory.
 pub fn zero_words(alloc: Global, count: usize) -> Result<Vec<i64>, AllocError>
     ensures sized { IfOk result (λ list. length list.items ≡ count) }
     ensures zeros { IfOk result (λ list. (c : ℕ) → whole_at list.items c ≡ pos 0) }
@@ -72,8 +72,8 @@ pub(crate) fn greatest(numbers: &[i64]) -> u64
     most
 }
 
-/// Turns each number into `a` times it less `b` times the other list's; answers a bound of the
-/// magnitudes of the results.
+/// Replaces each number with `a` times it less `b` times the other list's number, and answers a
+/// bound of the magnitudes of the results.
 pub(crate) fn lessen(numbers: &mut [i64], a: i64, b: i64, others: &[i64]) -> u64
     requires sized { length others.now ≡ length numbers.old }
     requires within_bound { CombinationsStayWithin (2 ^ 63 - 1) a b numbers.old others.now }
@@ -90,8 +90,9 @@ pub(crate) fn lessen(numbers: &mut [i64], a: i64, b: i64, others: &[i64]) -> u64
     most
 }
 
-/// Subtracts `b` times the other list's number from each number, at the places where the other is
-/// not 0. Answers a bound of the magnitudes of all numbers, which is at least `least`.
+/// Subtracts `b` times the other list's number from each number, at `places`, the columns at which
+/// the other list is not 0. Answers a bound of the magnitudes of all numbers, which is at least
+/// `least`.
 pub(crate) fn lessen_at(
     numbers: &mut [i64],
     b: i64,
@@ -148,7 +149,7 @@ pub(crate) fn divide(numbers: &mut [i64], divisor: u64)
     }
 }
 
-/// Changes the sign of each number.
+/// Negates each number.
 pub(crate) fn negate(numbers: &mut [i64])
     requires { (c : ℕ) → nat_abs (whole_at numbers.old c) < 2 ^ 63 }
     ensures { AreNegated numbers.old numbers.new }
@@ -157,16 +158,4 @@ pub(crate) fn negate(numbers: &mut [i64])
         let negated = difference(0, numbers[c]);
         numbers[c] = negated;
     }
-}
-
-/// `a` times `n` less `b` times `x`, in two words.
-#[inline(always)]
-pub(crate) fn cross(a: i64, n: i64, b: i64, x: i64) -> i128
-    requires first { nat_abs a < 2 ^ 63 }
-    requires second { nat_abs b < 2 ^ 63 }
-    ensures { result ≡ a *ℤ n -ℤ b *ℤ x }
-{
-    let first = a as i128 * n as i128;
-    let second = b as i128 * x as i128;
-    first - second
 }

@@ -1,10 +1,12 @@
-//! Integers in a list, of one word each or of two.
-ghost use Rattle.std.specs.Prelude.{◌≡◌, ℕ, ◌+◌, ◌*◌, ◌<◌, ◌≤◌, ◌^◌, ◌-◌, ◌-ℤ◌, ◌*ℤ◌, [], pos, nat_abs, length, slice_set, true, false, IfOk, MatchOption};
+//! Integers in a list, of one word each or of two, or only those that are not 0.
+ghost use Rattle.std.specs.Prelude.{◌≡◌, ℕ, ◌+◌, ◌*◌, ◌<◌, ◌≤◌, ◌^◌, ◌-◌, ◌-ℤ◌, ◌*ℤ◌, [], pos, nat_abs, length, slice_set, true, false, IfOk, IfSome, MatchOption};
 ghost use Rattle.std.specs.Int.{◌∣◌};
 ghost use Rattle.lp_integers.specs.Lines.{whole_at, AreWithin, AreDivided, CombinationsStayWithin, AreLessened, ArePlaces, AreLessenedFrom, AreOver, AreNegated};
 ghost use Rattle.lp_integers.specs.Widths.{listed, AreWithinWidth};
+ghost use Rattle.lp_integers.specs.Words.{AreDifferences, IsFirstAbove, IsGreatestAbove};
 
 use crate::common::{WORD, gcd};
+use crate::few::Few;
 use crate::kept::Kept;
 use crate::{narrow, wide};
 use std::alloc::{AllocError, Global};
@@ -13,8 +15,8 @@ use std::marker::Model;
 /// The least magnitude that does not fit in one word with a sign.
 const HALF: u128 = 1 << 63;
 
-/// Integers in a list. They take one word each while all are small, else two; no result depends on
-/// which.
+/// A list of integers. Each takes one word while all are small, else each takes two. If at most one
+/// in 16 is not 0, the list stores only those that are not 0. The way of storage changes no result.
 #[derive(Drop)]
 pub struct Numbers {
     kept: Kept,
@@ -42,8 +44,31 @@ fn kept_of(alloc: Global, numbers: Vec<i128>) -> Result<Kept, AllocError>
     Ok(Kept::Narrow(list))
 }
 
+/// `a` times the numbers less `b` times others, if of both only the numbers other than 0 are
+/// stored. The error is out of memory.
+fn few_lessened(
+    alloc: Global,
+    own: &Kept,
+    a: i64,
+    b: i64,
+    other: &Kept,
+) -> Result<Option<Few>, AllocError>
+    requires sized { length (listed other.now) ≡ length (listed own.now) }
+    requires within_bound { CombinationsStayWithin (2 ^ 63 - 1) a b (listed own.now) (listed other.now) }
+    ensures { IfOk result (λ found. IfSome found (AreDifferences a b (listed own.now) (listed other.now))) }
+{
+    let Kept::Few(other) = other else {
+        return Ok(None);
+    };
+    let Kept::Few(own) = own else {
+        return Ok(None);
+    };
+    let list = own.lessened(alloc, a, b, other)?;
+    Ok(Some(list))
+}
+
 impl Numbers {
-    /// No numbers.
+    /// An empty list.
     pub fn empty(alloc: Global) -> Numbers
         ensures { result ≡ [] }
     {
@@ -52,7 +77,8 @@ impl Numbers {
         }
     }
 
-    /// These numbers, whose magnitudes are at most `most`. The only error is out of memory.
+    /// The list of these numbers. Each magnitude is at most `most`. The only error is out of
+    /// memory.
     pub fn of(alloc: Global, numbers: Vec<i128>, most: u128) -> Result<Numbers, AllocError>
         requires { AreWithin numbers.items most }
         ensures { IfOk result (λ list. list ≡ numbers.items) }
@@ -68,14 +94,37 @@ impl Numbers {
         })
     }
 
-    /// These numbers, of one word each.
-    pub fn of_words(words: Vec<i64>) -> Numbers
+    /// The list of these numbers, whose magnitudes have at most 63 bits. The error is out of
+    /// memory.
+    pub fn of_words(alloc: Global, words: Vec<i64>) -> Result<Numbers, AllocError>
         requires { AreWithin words.items (2 ^ 63 - 1) }
-        ensures { result ≡ words.items }
+        ensures { IfOk result (λ list. list ≡ words.items) }
     {
-        Numbers {
-            kept: Kept::Narrow(words),
+        match Few::of(alloc, words.as_slice())? {
+            Some(list) => Ok(Numbers {
+                kept: Kept::Few(list),
+            }),
+            None => Ok(Numbers {
+                kept: Kept::Narrow(words),
+            }),
         }
+    }
+
+    /// These numbers, of which only those other than 0 are stored if they are few. The error is out
+    /// of memory.
+    fn of_few(alloc: Global, list: Few) -> Result<Numbers, AllocError>
+        ensures { IfOk result (λ made. made ≡ list) }
+    {
+        list.keeps();
+        if list.is_few() {
+            return Ok(Numbers {
+                kept: Kept::Few(list),
+            });
+        }
+        let list = list.listed(alloc)?;
+        Ok(Numbers {
+            kept: Kept::Narrow(list),
+        })
     }
 
     /// The greatest magnitude of the numbers; 0 without numbers.
@@ -84,6 +133,7 @@ impl Numbers {
         ensures small { (m : ℕ) → AreWithin self.now m → result ≤ m }
     {
         match &self.kept {
+            Kept::Few(list) => list.greatest() as u128,
             Kept::Narrow(list) => narrow::greatest(list.as_slice()) as u128,
             Kept::Wide(list) => wide::greatest(list.as_slice(), 0),
         }
@@ -94,6 +144,12 @@ impl Numbers {
         ensures { IfOk result (λ list. list ≡ self.now) }
     {
         match &self.kept {
+            Kept::Few(list) => {
+                let list = list.copied(alloc)?;
+                Ok(Numbers {
+                    kept: Kept::Few(list),
+                })
+            }
             Kept::Narrow(list) => {
                 let list = narrow::copied(alloc, list.as_slice())?;
                 Ok(Numbers {
@@ -109,56 +165,74 @@ impl Numbers {
         }
     }
 
-    /// How many there are.
+    /// How many numbers there are.
     pub fn len(&self) -> usize
         ensures { result ≡ length self.now }
     {
         match &self.kept {
+            Kept::Few(list) => list.len(),
             Kept::Narrow(list) => list.len(),
             Kept::Wide(list) => list.len(),
         }
     }
 
-    /// The number at a place.
+    /// The number at the position `place`, from 0.
     #[inline(always)]
     pub fn at(&self, place: usize) -> i128
         requires { place < length self.now }
         ensures { result ≡ whole_at self.now place }
     {
         match &self.kept {
+            Kept::Few(list) => list.at(place) as i128,
             Kept::Narrow(list) => list[place] as i128,
             Kept::Wide(list) => list[place],
         }
     }
 
-    /// The other list's number at `zero` times this list's at `place`, less the product with the
-    /// places exchanged.
-    #[inline(always)]
-    pub fn cross_at(&self, others: &Numbers, zero: usize, place: usize) -> i128
-        requires sized { length others.now ≡ length self.now }
-        requires zero { zero < length self.now }
-        requires place { place < length self.now }
-        requires within_bound { nat_abs (whole_at others.now zero) * nat_abs (whole_at self.now place) + nat_abs
-            (whole_at self.now zero) * nat_abs (whole_at others.now place) < 2 ^ 127 }
-        ensures { result ≡ whole_at others.now zero *ℤ whole_at self.now place -ℤ whole_at self.now zero *ℤ whole_at others.now place }
+    /// The least index from `start` on at which the number is above 0; `None` if no number from
+    /// there on is above 0.
+    pub fn first_above(&self, start: usize) -> Option<usize>
+        ensures { IsFirstAbove self.now start result }
     {
-        if let Kept::Narrow(own) = &self.kept {
-            if let Kept::Narrow(other) = &others.kept {
-                return narrow::cross(other[zero], own[place], own[zero], other[place]);
+        if let Kept::Few(list) = &self.kept {
+            return list.first_above(start);
+        }
+        for place in start..self.len() {
+            if self.at(place) > 0 {
+                return Some(place);
             }
         }
-        wide::cross_difference(
-            others.at(zero),
-            self.at(place),
-            self.at(zero),
-            others.at(place),
-        )
+        None
     }
 
-    /// The distinct places of the numbers other than 0. The only error is out of memory.
+    /// The index of the greatest of the numbers from the index `start` on, the least index if
+    /// several are greatest; `None` if none of these numbers is above 0.
+    pub fn greatest_above(&self, start: usize) -> Option<usize>
+        ensures { IsGreatestAbove self.now start result }
+    {
+        if let Kept::Few(list) = &self.kept {
+            return list.greatest_above(start);
+        }
+        let mut best = None;
+        let mut most = 0;
+        for place in start..self.len() {
+            let number = self.at(place);
+            if number > most {
+                most = number;
+                best = Some(place);
+            }
+        }
+        best
+    }
+
+    /// The positions, from 0, of the numbers that are not 0, in any order and without repetition.
+    /// The only error is out of memory.
     pub fn places(&self, alloc: Global) -> Result<Vec<usize>, AllocError>
         ensures { IfOk result (λ places. ArePlaces self.now (length self.now) places.items) }
     {
+        if let Kept::Few(list) = &self.kept {
+            return list.places(alloc);
+        }
         let mut places = Vec::new(alloc);
         for place in 0..self.len() {
             if self.at(place) != 0 {
@@ -173,6 +247,7 @@ impl Numbers {
         ensures { IfOk result (λ list. list.items ≡ self.now) }
     {
         match &self.kept {
+            Kept::Few(list) => list.widened(alloc),
             Kept::Narrow(list) => wide::widened(alloc, list.as_slice()),
             Kept::Wide(list) => Vec::from_slice(alloc, list.as_slice()),
         }
@@ -193,6 +268,7 @@ impl Numbers {
                 let most = narrow::lessen(own.as_mut_slice(), a, b, other.as_slice());
                 Some(most)
             }
+            Kept::Few(_) => None,
             Kept::Wide(_) => None,
         }
     }
@@ -217,9 +293,114 @@ impl Numbers {
         Ok(most)
     }
 
-    /// Turns each number into `a` times it less `b` times the other's. No result and no product may
-    /// exceed a given bound. Answers a bound of the magnitudes of the results. The only error is
-    /// out of memory.
+    /// All numbers of one word each, if only those other than 0 are stored. The error is out of
+    /// memory.
+    fn all_listed(&self, alloc: Global) -> Result<Option<Numbers>, AllocError>
+        ensures { IfOk result (λ found. IfSome found (λ list. list ≡ self.now)) }
+    {
+        match &self.kept {
+            Kept::Few(list) => {
+                list.keeps();
+                let list = list.listed(alloc)?;
+                Ok(Some(Numbers {
+                    kept: Kept::Narrow(list),
+                }))
+            }
+            Kept::Narrow(_) => Ok(None),
+            Kept::Wide(_) => Ok(None),
+        }
+    }
+
+    /// Stores all numbers, if only those other than 0 were stored. The error is out of memory.
+    fn list_all(&mut self, alloc: Global) -> Result<(), AllocError>
+        ensures { IfOk result (λ _. self.new ≡ self.old) }
+    {
+        if let Some(list) = self.all_listed(alloc)? {
+            *self = list;
+        }
+        Ok(())
+    }
+
+    /// The same list, of which only the numbers other than 0 are stored, if this one stores all in
+    /// one word each and `count` is at most one in 16 of its length. The error is out of memory.
+    fn spared(&self, alloc: Global, count: usize) -> Result<Option<Numbers>, AllocError>
+        ensures { IfOk result (λ found. IfSome found (λ list. list ≡ self.now)) }
+    {
+        match &self.kept {
+            Kept::Narrow(list) => {
+                let Some(list) = Few::of_counted(alloc, list.as_slice(), count)? else {
+                    return Ok(None);
+                };
+                list.keeps();
+                Ok(Some(Numbers {
+                    kept: Kept::Few(list),
+                }))
+            }
+            Kept::Few(_) => Ok(None),
+            Kept::Wide(_) => Ok(None),
+        }
+    }
+
+    /// Stores only the numbers other than 0, if all are stored, in one word each, and `count`, the
+    /// number of those that are not 0, is at most one in 16 of the length. The list stays. The
+    /// error is out of memory.
+    pub fn spare_zeros(&mut self, alloc: Global, count: usize) -> Result<(), AllocError>
+        ensures { IfOk result (λ _. self.new ≡ self.old) }
+    {
+        if let Some(list) = self.spared(alloc, count)? {
+            *self = list;
+        }
+        Ok(())
+    }
+
+    /// Turns each number into `a` times it less `b` times the other's, if of both lists only the
+    /// numbers other than 0 are stored; else the numbers stay. The error is out of memory.
+    fn lessen_few(
+        &mut self,
+        alloc: Global,
+        a: i64,
+        b: i64,
+        others: &Numbers,
+    ) -> Result<Option<u64>, AllocError>
+        requires sized { length others.now ≡ length self.old }
+        requires within_bound { CombinationsStayWithin (2 ^ 63 - 1) a b self.old others.now }
+        ensures { IfOk result (λ o. MatchOption o (self.new ≡ self.old) (AreLessened a b self.old others.now self.new)) }
+    {
+        let Some(list) = few_lessened(alloc, &self.kept, a, b, &others.kept)? else {
+            return Ok(None);
+        };
+        let most = list.greatest();
+        *self = Numbers::of_few(alloc, list)?;
+        Ok(Some(most))
+    }
+
+    /// Turns each number into `a` times it less `b` times the other's, if there is one word for
+    /// each; else the numbers stay. The error is out of memory.
+    fn lessen_words(
+        &mut self,
+        alloc: Global,
+        a: i64,
+        b: i64,
+        others: &Numbers,
+    ) -> Result<Option<u64>, AllocError>
+        requires sized { length others.now ≡ length self.old }
+        requires within_bound { CombinationsStayWithin (2 ^ 63 - 1) a b self.old others.now }
+        ensures { IfOk result (λ o. MatchOption o (self.new ≡ self.old) (AreLessened a b self.old others.now self.new)) }
+    {
+        if let Some(most) = self.lessen_few(alloc, a, b, others)? {
+            return Ok(Some(most));
+        }
+        self.list_all(alloc)?;
+        match others.all_listed(alloc)? {
+            Some(list) => Ok(self.lessen_narrow(a, b, &list)),
+            None => Ok(self.lessen_narrow(a, b, others)),
+        }
+    }
+
+    /// Replaces each number x with `a` times x less `b` times y, where y is the number of `others`
+    /// at the same position. At each position the magnitudes of these two products together are at
+    /// most `within_bound`. Returns a bound of the magnitudes of the results, which is at most
+    /// `within_bound`. The only error is out of memory.
     pub fn lessen(
         &mut self,
         alloc: Global,
@@ -234,7 +415,7 @@ impl Numbers {
         ensures { IfOk result (AreLessened a b self.old others.now self.new) }
     {
         if within_bound < HALF && a.unsigned_abs() < HALF && b.unsigned_abs() < HALF {
-            if let Some(most) = self.lessen_narrow(a as i64, b as i64, others) {
+            if let Some(most) = self.lessen_words(alloc, a as i64, b as i64, others)? {
                 return Ok(most as u128);
             }
         }
@@ -257,6 +438,13 @@ impl Numbers {
         requires within_bound { CombinationsStayWithin (2 ^ 63 - 1) (pos 1) b self.old others.now }
         ensures { MatchOption result (self.new ≡ self.old) (AreLessenedFrom least b self.old others.now self.new) }
     {
+        if let Kept::Few(other) = &others.kept {
+            if let Kept::Narrow(own) = &mut self.kept {
+                let most = other.lessen(own.as_mut_slice(), b, least);
+                return Some(most);
+            }
+            return None;
+        }
         let Kept::Narrow(other) = &others.kept else {
             return None;
         };
@@ -271,13 +459,19 @@ impl Numbers {
                 );
                 Some(most)
             }
+            Kept::Few(_) => None,
             Kept::Wide(_) => None,
         }
     }
 
-    /// Subtracts `b` times the other's number from each number, if only the places where the other
-    /// is not 0 have to be visited and no number exceeds `within_bound`. Answers a bound of the
-    /// magnitudes, at least `least`, which bounded the numbers before. Else the numbers stay.
+    /// Replaces each number x with x less `b` times y, where y is the number of `others` at the
+    /// same position. Only the numbers at `places` change, the positions at which `others` is not
+    /// 0. All this is done only if one word suffices for each number; else nothing changes. `least`
+    /// bounds the magnitudes before. At each position the magnitudes of x and of `b` times y
+    /// together are at most `within_bound`.
+    ///
+    /// Returns a bound of the magnitudes after the change, which is at least `least`; `None` if the
+    /// numbers are unchanged.
     pub fn lessen_at(
         &mut self,
         b: i128,
@@ -330,6 +524,7 @@ impl Numbers {
             return self.divisor_of_any(denominator);
         }
         match &self.kept {
+            Kept::Few(list) => list.divisor_of(denominator as u64) as u128,
             Kept::Narrow(list) => narrow::divisor_of(list.as_slice(), denominator as u64) as u128,
             Kept::Wide(_) => self.divisor_of_any(denominator),
         }
@@ -345,6 +540,10 @@ impl Numbers {
         ensures same { result ≡ false → self.new ≡ self.old }
     {
         match &mut self.kept {
+            Kept::Few(list) => {
+                list.divide(divisor);
+                true
+            }
             Kept::Narrow(list) => {
                 narrow::divide(list.as_mut_slice(), divisor);
                 true
@@ -353,7 +552,8 @@ impl Numbers {
         }
     }
 
-    /// Divides each number by a common divisor. The only error is out of memory.
+    /// Divides each number by `divisor`, which divides all of them without a remainder. The only
+    /// error is out of memory.
     pub fn divide(&mut self, alloc: Global, divisor: u128) -> Result<(), AllocError>
         requires positive { 0 < divisor }
         requires small { divisor < 2 ^ 127 }
@@ -369,23 +569,25 @@ impl Numbers {
         Ok(())
     }
 
-    /// Changes the sign of each number.
+    /// Negates each number.
     pub fn negate(&mut self)
         requires { (c : ℕ) → nat_abs (whole_at self.old c) < 2 ^ 127 }
         ensures { AreNegated self.old self.new }
     {
         match &mut self.kept {
+            Kept::Few(list) => list.negate(),
             Kept::Narrow(list) => narrow::negate(list.as_mut_slice()),
             Kept::Wide(list) => wide::negate(list.as_mut_slice()),
         }
     }
 
-    /// Puts 0 at a place.
+    /// Replaces the number at the position `place`, from 0, with 0.
     pub fn clear(&mut self, place: usize)
         requires { place < length self.old }
         ensures { self.new ≡ slice_set self.old place (pos 0) }
     {
         match &mut self.kept {
+            Kept::Few(list) => list.clear(place),
             Kept::Narrow(list) => list[place] = 0,
             Kept::Wide(list) => list[place] = 0,
         }

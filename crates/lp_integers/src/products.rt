@@ -1,9 +1,9 @@
-//! Products of magnitudes up to a bound.
+//! Products of magnitudes that stay within a bound.
 ghost use Rattle.std.specs.Prelude.{◌≡◌, ◌+◌, ◌*◌, ◌<◌, ◌≤◌, ◌^◌, MatchOption};
 
 use crate::common::WORD;
 
-/// The product of two magnitudes; none if it is above the bound.
+/// The product of the magnitudes `a` and `b`; `None` if the product exceeds the bound.
 #[inline(always)]
 pub fn product_within(bound: u128, a: u128, b: u128) -> Option<u128>
     ensures { MatchOption result (bound < a * b) (λ m. (m ≡ a * b) × (m ≤ bound)) }
@@ -19,7 +19,8 @@ pub fn product_within(bound: u128, a: u128, b: u128) -> Option<u128>
     }
 }
 
-/// The sum of two products of magnitudes; none if it is above the bound.
+/// The sum of two products of magnitudes, `a` times `m` and `b` times `n`; `None` if the sum
+/// exceeds the bound.
 #[inline(always)]
 pub fn sum_within(bound: u128, a: u128, m: u128, b: u128, n: u128) -> Option<u128>
     requires { bound < 2 ^ 127 }

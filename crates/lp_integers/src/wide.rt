@@ -45,8 +45,8 @@ fn greater(most: u128, n: i128) -> u128
     if magnitude > most { magnitude } else { most }
 }
 
-/// Turns each number into `a` times it less `b` times the other list's; answers a bound of the
-/// magnitudes of the results.
+/// Replaces each number with `a` times it less `b` times the other list's number, and answers a
+/// bound of the magnitudes of the results.
 pub(crate) fn lessen(numbers: &mut [i128], a: i128, b: i128, others: &[i128]) -> u128
     requires sized { length others.now ≡ length numbers.old }
     requires within_bound { CombinationsStayWithin (2 ^ 127 - 1) a b numbers.old others.now }
@@ -90,7 +90,7 @@ pub(crate) fn divide(numbers: &mut [i128], divisor: u128)
     }
 }
 
-/// Changes the sign of each number.
+/// Negates each number.
 pub(crate) fn negate(numbers: &mut [i128])
     requires { (c : ℕ) → nat_abs (whole_at numbers.old c) < 2 ^ 127 }
     ensures { AreNegated numbers.old numbers.new }
@@ -101,7 +101,7 @@ pub(crate) fn negate(numbers: &mut [i128])
     }
 }
 
-/// The greatest magnitude of the numbers, and at least `least`.
+/// The greatest magnitude of the numbers, or `least` if `least` is greater.
 pub fn greatest(numbers: &[i128], least: u128) -> u128
     ensures within { AreWithin numbers.now result }
     ensures above { least ≤ result }

@@ -1,4 +1,4 @@
-use Rattle.std.proofs.Common.{◌≡◌, ◌<◌, ◌≤◌, true≢false, refl, sym, ◌∙◌, arith}
+use Rattle.std.proofs.Common.{true≢false, refl, sym, arith}
 use Rattle.lp_integer_rows.proofs.Plans.{some_at}
 use Rattle.lp_integer_dict.proofs.apart.exchanged_stay_within.Goals as goal
 

@@ -1,8 +1,8 @@
-use Rattle.std.proofs.Common.{◌≡◌, ◌<◌, ◌≤◌, ◌-◌, ◌^◌, length, inl, inr, true≢false, List, Some, sym, ap, ◌∙◌, subst, arith}
+use Rattle.std.proofs.Common.{◌≡◌, ◌<◌, ◌-◌, ◌^◌, length, inl, inr, true≢false, List, Some, sym, ap, ◌∙◌, subst, arith}
 use Rattle.std.specs.Prelude.{slice_get, MatchOption}
 use Rattle.lp_integer_rows.specs.declared.line.Line.{Line}
-use Rattle.lp_integer_rows.specs.Form.{AreLines, ArePlanned, IsPlan, IsSomeCrowded, AreTurned, AreSameLines}
-use Rattle.lp_integer_dict.specs.WithinBound.{ExchangedStayWithin, AreMade, AreExchangedWithin}
+use Rattle.lp_integer_rows.specs.Form.{AreLines, ArePlanned, IsPlan, IsSomeCrowded, AreTurned}
+use Rattle.lp_integer_dict.specs.WithinBound.{ExchangedStayWithin}
 use Rattle.lp_integer_rows.proofs.Plans.{index_get}
 use Rattle.lp_integer_dict.proofs.Sameness.{line_above, plan_of, same_are}
 use Rattle.lp_integer_dict.proofs.Arriving.{by_copies, made_so}

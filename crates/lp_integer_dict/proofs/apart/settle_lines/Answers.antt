@@ -1,4 +1,4 @@
-use Rattle.std.proofs.Common.{◌≡◌, ◌<◌, length, Some, refl, sym, ◌∙◌, arith}
+use Rattle.std.proofs.Common.{◌≡◌, ◌<◌, length, Some, sym, ◌∙◌, arith}
 use Rattle.std.specs.Prelude.{slice_get}
 use Rattle.lp_integer_rows.proofs.Plans.{index_get, get_within, reduced_more, reduced_all}
 use Rattle.lp_integer_dict.proofs.Settling.{lowest_more, reduced_none}

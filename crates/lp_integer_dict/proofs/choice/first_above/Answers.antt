@@ -1,24 +1,16 @@
-use Rattle.std.proofs.Common.{rules, ◌<ℤ◌, ◌-◌, pos, FitsSigned, sym, subst, arith}
-use Rattle.std.specs.Int.{w128}
-use Rattle.std.proofs.lemmas.Int.{ints, to_z-of_z}
-use Rattle.lp_integer_dict.proofs.Choices.{none_more, found_above, none_above}
+use Rattle.std.proofs.Common.{◌+◌, ◌-◌, Some, None, subst, arith}
+use Rattle.lp_integers.specs.Words.{IsFirstAbove as IsFirstPlaceAbove}
+use Rattle.lp_integer_rows.specs.Form.{wholes}
+use Rattle.lp_integer_dict.proofs.Choices.{first_of_places}
 use Rattle.lp_integer_dict.proofs.choice.first_above.Goals as goal
 
-pub returns-then-number-gt0 : goal.returns-then-number-gt0
-returns-then-number-gt0 c =
-    let fits : FitsSigned w128 c.number_at-number.result = search rules in
-    let is = to_z-of_z w128 c.number_at-number.result fits in
-    let told = c.if-number-gt0.true in
-    let above : pos 0 <ℤ c.number_at-number.result = omega (arith, ints) in
-    let two = c.loop-column.auto.column in
-    found_above c.args.line.now c.loop-column.column (c.loop-column.column - 1) c.loop-column.invariant (omega arith) (omega arith) (subst (λ z. pos 0 <ℤ z) c.number_at-number.ensures above)
+pub returns-in-Some : goal.returns-in-Some
+returns-in-Some c =
+    let known : IsFirstPlaceAbove (wholes c.args.line.now) 2 (Some c.in-Some.column) = subst (IsFirstPlaceAbove (wholes c.args.line.now) 2) c.in-Some.is c.first_above.ensures in
+    let two = known.0 in
+    first_of_places c.args.line.now c.in-Some.column (c.in-Some.column - 1) (omega arith) known
 
-pub loop-column-preserved : goal.loop-column-preserved
-loop-column-preserved c =
-    let fits : FitsSigned w128 c.number_at-number.result = search rules in
-    let is = to_z-of_z w128 c.number_at-number.result fits in
-    let told = c.if-number-gt0.false in
-    none_more c.args.line.now c.loop-column.column c.loop-column.invariant (λ above. let high = subst (λ z. pos 0 <ℤ z) (sym c.number_at-number.ensures) above in omega (arith, ints))
-
-pub returns : goal.returns
-returns c = none_above c.args.line.now c.loop-column.column (omega arith) c.loop-column.invariant
+pub returns-in-None : goal.returns-in-None
+returns-in-None c =
+    let known : IsFirstPlaceAbove (wholes c.args.line.now) 2 None = subst (IsFirstPlaceAbove (wholes c.args.line.now) 2) c.in-None.is c.first_above.ensures in
+    λ v one above. known (v + 1) (omega arith) above

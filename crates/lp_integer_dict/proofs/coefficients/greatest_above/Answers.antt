@@ -1,26 +1,16 @@
-use Rattle.std.proofs.Common.{◌-◌, length, Some, subst, arith}
+use Rattle.std.proofs.Common.{◌+◌, ◌-◌, Some, None, subst, arith}
+use Rattle.lp_integers.specs.Words.{IsGreatestAbove as IsGreatestPlaceAbove}
 use Rattle.lp_integer_rows.specs.Form.{wholes}
-use Rattle.lp_integer_dict.proofs.Largest.{GreatestTo, greatest_begins, best_within, best_goes, none_found, some_found}
+use Rattle.lp_integer_dict.proofs.Largest.{greatest_of_places}
 use Rattle.lp_integer_dict.proofs.coefficients.greatest_above.Goals as goal
-
-pub loop-column-init : goal.loop-column-init
-loop-column-init c = greatest_begins c.args.line.now
-
-pub better-best-requires-clause-best : goal.better-best-requires-clause-best
-better-best-requires-clause-best c =
-    best_within c.args.line.now c.loop-column.column (length (wholes c.args.line.now)) c.loop-column.best (omega arith) c.loop-column.invariant
-
-pub loop-column-preserved : goal.loop-column-preserved
-loop-column-preserved c =
-    let two = c.loop-column.auto.column in
-    best_goes c.args.line.now c.loop-column.column (omega arith) c.loop-column.best c.better-best.result c.loop-column.invariant c.better-best.ensures
 
 pub returns-in-Some : goal.returns-in-Some
 returns-in-Some c =
-    let known : GreatestTo c.args.line.now c.loop-column.column (Some c.in-Some.column) = subst (GreatestTo c.args.line.now c.loop-column.column) c.in-Some.is c.loop-column.invariant in
-    let two = known.is.0 in
-    some_found c.args.line.now c.loop-column.column (omega arith) c.in-Some.column (c.in-Some.column - 1) (omega arith) known
+    let known : IsGreatestPlaceAbove (wholes c.args.line.now) 2 (Some c.in-Some.column) = subst (IsGreatestPlaceAbove (wholes c.args.line.now) 2) c.in-Some.is c.greatest_above.ensures in
+    let two = known.0 in
+    greatest_of_places c.args.line.now c.in-Some.column (c.in-Some.column - 1) (omega arith) known
 
 pub returns-in-None : goal.returns-in-None
 returns-in-None c =
-    none_found c.args.line.now c.loop-column.column (omega arith) (subst (GreatestTo c.args.line.now c.loop-column.column) c.in-None.is c.loop-column.invariant)
+    let known : IsGreatestPlaceAbove (wholes c.args.line.now) 2 None = subst (IsGreatestPlaceAbove (wholes c.args.line.now) 2) c.in-None.is c.greatest_above.ensures in
+    λ v one above. known (v + 1) (omega arith) above

@@ -1,8 +1,8 @@
-use Rattle.std.proofs.Common.{rules, ◌≡◌, ℕ, ◌<◌, ◌≤◌, nat_abs, FitsSigned, inl, inr, sym, ap, ◌∙◌, subst, arith}
+use Rattle.std.proofs.Common.{rules, ◌≡◌, ℕ, ◌≤◌, nat_abs, FitsSigned, inl, inr, sym, ap, ◌∙◌, subst, arith}
 use Rattle.std.specs.Int.{w128}
 use Rattle.std.proofs.lemmas.Bool.{cases_eq}
 use Rattle.std.proofs.lemmas.Int.{to_z-of_z}
-use Rattle.lp_integer_dict.specs.WithinBound.{line_denominator, row_number}
+use Rattle.lp_integer_dict.specs.WithinBound.{row_number}
 use Rattle.lp_integer_dict.proofs.pairs.most_of_row.Goals as goal
 
 pub loop-c-init : goal.loop-c-init

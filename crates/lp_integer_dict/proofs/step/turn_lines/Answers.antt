@@ -1,8 +1,8 @@
-use Rattle.std.proofs.Common.{◌≡◌, ◌<◌, true, false, true≢false, length, pos, sym, ◌∙◌, subst, arith}
+use Rattle.std.proofs.Common.{◌≡◌, true, false, pos, sym, subst, arith}
 use Rattle.gq_number.specs.Number.{whole}
 use Rattle.gq_number.specs.Order.{◌<ℚ◌}
-use Rattle.lp_integer_rows.specs.Form.{AreLines, AreSameLines, lines_number}
-use Rattle.lp_integer_dict.specs.WithinBound.{AreExchangedWithin, FactorsExceed, MadeRowsExceed, ExchangeExceeds}
+use Rattle.lp_integer_rows.specs.Form.{AreSameLines}
+use Rattle.lp_integer_dict.specs.WithinBound.{AreExchangedWithin, MadeRowsExceed, ExchangeExceeds}
 use Rattle.lp_integer_dict.proofs.Sameness.{same_are, same_numbers}
 use Rattle.lp_integer_dict.proofs.Arriving.{same_turned}
 use Rattle.lp_integer_rows.proofs.Results.{if_ok, if_both}

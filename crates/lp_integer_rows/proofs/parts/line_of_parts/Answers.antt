@@ -27,8 +27,8 @@ returns-in_default-filled-clause-none c =
 
 pub returns-in-Some-2-clause-numbers : goal.returns-in-Some-2-clause-numbers
 returns-in-Some-2-clause-numbers c =
-    parts_are c.args.parts.now c.in-Some.multiple c.args.width c.of_words-line.result c.in-Some-2.words.items (subst (λ o. IfSome o (λ words. AreFilled c.args.parts.now c.in-Some.multiple c.args.width (length c.args.parts.now) words.items × AreWithin words.items (2 ^ 63 - 1))) c.in-Some-2.is c.in_ok-words.ensures).0 c.of_words-line.ensures.numbers c.of_words-line.ensures.denominator
+    parts_are c.args.parts.now c.in-Some.multiple c.args.width c.in_ok-made.made c.in-Some-2.words.items (subst (λ o. IfSome o (λ words. AreFilled c.args.parts.now c.in-Some.multiple c.args.width (length c.args.parts.now) words.items × AreWithin words.items (2 ^ 63 - 1))) c.in-Some-2.is c.in_ok-words.ensures).0 c.in_ok-made.ensures.numbers c.in_ok-made.ensures.denominator
 
-pub of_words-line-requires-clause-marked : goal.of_words-line-requires-clause-marked
-of_words-line-requires-clause-marked c = λ k clear.
+pub of_words-requires-clause-marked : goal.of_words-requires-clause-marked
+of_words-requires-clause-marked c = λ k clear.
     (subst (λ o. IfSome o (λ words. AreFilled c.args.parts.now c.in-Some.multiple c.args.width (length c.args.parts.now) words.items × AreWithin words.items (2 ^ 63 - 1))) c.in-Some-2.is c.in_ok-words.ensures).0.elsewhere k (λ i p less at. c.marks_of-marks.ensures k i p clear at)

@@ -1,4 +1,4 @@
-use Rattle.std.proofs.Common.{ℕ, pos, int_div, ◌≡◌, ◌*ℤ◌, to_z, of_z, w64, sym, ap, ap₂, ◌∙◌, arith}
+use Rattle.std.proofs.Common.{ℕ, pos, int_div, ◌≡◌, ◌*ℤ◌, to_z, of_z, w64, ap, ap₂, ◌∙◌, arith}
 use Rattle.std.proofs.lemmas.Int.{ints, to_z-of_z, to_z_pos, quot_fits}
 use Rattle.gq_number.proofs.Whole.{int_div-*ℤ}
 use Rattle.lp_integers.proofs.divisor.Divisor.quotient.Goals as goal

@@ -7,7 +7,7 @@ use Rattle.lp_integers.specs.Widths.{listed}
 use Rattle.lp_integers.specs.contracts.numbers.Numbers.{the_invariant, the_view}
 use Rattle.lp_integers.proofs.Lines.{lessened_within, same_lessened}
 use Rattle.lp_integers.proofs.numbers.Numbers.lessen_narrow.Goals as goal
-use Rattle.lp_integers.proofs.numbers.Numbers.lessen_narrow.Goals.{in-Narrow-kept, in-Wide}
+use Rattle.lp_integers.proofs.numbers.Numbers.lessen_narrow.Goals.{in-Narrow-kept, in-Few, in-Wide}
 
 pub invariant_of-self : goal.invariant_of-self
 invariant_of-self c = elim c.match-self.branch [
@@ -20,6 +20,7 @@ invariant_of-self c = elim c.match-self.branch [
       subst (λ s. the_invariant s) (sym w.self-inside-is)
       (subst (λ l. AreWithin l (2 ^ 63 - 1)) (sym (with_items_is w.in-Narrow-kept.own w.lessen-most.new.numbers sized))
       (lessened_within c.args.a c.args.b c.args.self.now c.args.others.now w.lessen-most.new.numbers w.lessen-most.result (2 ^ 63 - 1) lessened c.requires.within_bound))
+  | in-Few w ↦ subst (λ s. the_invariant s) (sym w.self-inside-is) c.self.invariant
   | in-Wide w ↦ subst (λ s. the_invariant s) (sym w.self-inside-is) c.self.invariant
 ]
 
@@ -31,6 +32,8 @@ returns c = elim c.match-self.branch [
       let other_is = w.as_slice.ensures.value ∙ sym (ap listed c.in-Narrow.is) ∙ c.others.view_is in
       subst₂ (λ r s. MatchOption r (the_view s ≡ c.args.self.now) (AreLessened c.args.a c.args.b c.args.self.now c.args.others.now (the_view s))) (sym w.result-is) (sym w.self-inside-is)
       (same_lessened (to_z-of_z w64 c.args.a c.ranges.a) (to_z-of_z w64 c.args.b c.ranges.b) own_is other_is (sym (with_items_is w.in-Narrow-kept.own w.lessen-most.new.numbers sized)) w.lessen-most.ensures)
+  | in-Few w ↦
+      subst₂ (λ r s. MatchOption r (the_view s ≡ c.args.self.now) (AreLessened c.args.a c.args.b c.args.self.now c.args.others.now (the_view s))) (sym w.result-is) (sym w.self-inside-is) c.self.view_is
   | in-Wide w ↦
       subst₂ (λ r s. MatchOption r (the_view s ≡ c.args.self.now) (AreLessened c.args.a c.args.b c.args.self.now c.args.others.now (the_view s))) (sym w.result-is) (sym w.self-inside-is) c.self.view_is
 ]

@@ -1,7 +1,10 @@
-use Rattle.std.proofs.Common.{rules, ◌<◌, length, sym, arith}
+use Rattle.std.proofs.Common.{rules, ◌<◌, length, sym, ◌∙◌, subst, arith}
+use Rattle.std.specs.Int.{w128}
+use Rattle.std.proofs.lemmas.Int.{to_z-of_z}
+use Rattle.lp_integer_dict.specs.WithinBound.{IsNumberAbove}
 use Rattle.lp_integer_rows.proofs.Plans.{index_get}
 use Rattle.lp_integer_dict.proofs.Reading.{read_at_plain, read_at_pivot, read_at_other, pivot_within, ready}
-use Rattle.lp_integer_dict.proofs.read.read.Goals as goal
+use Rattle.lp_integer_dict.proofs.read.read_below.Goals as goal
 
 pub returns-then-place-k-clause-number : goal.returns-then-place-k-clause-number
 returns-then-place-k-clause-number c = (read_at_pivot c.args.lines.now c.args.deferred c.in-Some.k c.requires.lines.0 c.requires.lines.1 c.in-Some.is c.requires.lines.2 c.args.place c.args.column c.index-lines-k.result _ _ c.if-place-k.true c.index-lines-k.is c.read_pivot.ensures.numerator c.read_pivot.ensures.denominator).number
@@ -84,3 +87,9 @@ returns-clause-numerator c = (read_at_other c.args.lines.now c.args.deferred c.i
 
 pub returns-in_default-clause-numerator : goal.returns-in_default-clause-numerator
 returns-in_default-clause-numerator c = (read_at_plain c.args.lines.now c.args.deferred c.requires.lines.0 c.requires.lines.1 c.args.place c.args.column c.index-lines-place.result _ _ c.in_default.is c.requires.lines.2 (index_get c.args.lines.now c.args.place c.index-lines-place.result c.index-lines-place.result c.requires.within (sym c.index-lines-place.is)) c.read_own.ensures.numerator c.read_own.ensures.denominator).named
+
+pub read_above-requires-clause-above : goal.read_above-requires-clause-above
+read_above-requires-clause-above c =
+    to_z-of_z w128 c.args.above c.ranges.above
+    ∙ subst (λ o. IsNumberAbove o c.args.lines.now c.args.column c.args.above) c.in-Some.is c.requires.above c.index-lines-k.result
+    (index_get c.args.lines.now c.in-Some.k c.index-lines-k.result c.index-lines-k.result (pivot_within c.args.lines.now c.args.deferred c.in-Some.k c.requires.lines.0 c.requires.lines.1 c.in-Some.is c.requires.lines.2) (sym c.index-lines-k.is))
