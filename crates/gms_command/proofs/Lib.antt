@@ -3,6 +3,7 @@ mod Forms
 mod PrintedLines
 mod Parts
 mod PlainWords
+pub mod RequestedSizes
 mod Rows
 mod Sizes
 pub mod Appended

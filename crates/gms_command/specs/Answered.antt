@@ -1,4 +1,4 @@
--- That answers are those of linear programs.
+-- Answers of a list of linear programs, under some rule and some limit of pivots.
 use Rattle.std.specs.Prelude.{◌≡◌, ℕ, List, length, slice_get, IfSome}
 use Rattle.gq_number.specs.Number.{Number}
 use Rattle.lp_core.specs.declared.answer.Answer.{Answer}
@@ -15,7 +15,8 @@ module _ {F : Type 0} (value : F → Number) (limit : ℕ) where
     pub rule : Rule
     pub is_answer : IsAnswer value limit lp iterlim rule answer
 
-  -- There is one answer for each program, and each is one of the program at its place.
+  -- There are as many answers as programs, and each is an answer of the program at the same
+  -- position of the list.
   pub record AreSomeAnswers (programs : List (Lp F)) (answers : List (Answer F)) : Type 0 where
     pub many : length programs ≡ length answers
     pub each : (place : ℕ) → IfSome (slice_get programs place) (λ lp. IfSome (slice_get answers place) (IsSomeAnswer lp))

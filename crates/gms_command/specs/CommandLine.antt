@@ -11,147 +11,155 @@ use Rattle.gms_command.specs.declared.command_line.Source.{Source}
 use Rattle.gms_command.specs.declared.command_line.Source.TheVariants.{File, Restart, Generate}
 use Rattle.gms_command.specs.declared.command_line.Request.{Request}
 
--- a line: a text followed by a line feed
+-- a text as a line: followed by a line feed
 abbrev pub printed_line : List ℕ → List ℕ
 printed_line text = text ++ 10 ∷ []
 
--- the texts of the arguments
+-- the bytes of each argument
 abbrev pub texts : {A : Type 0} → List (String A) → List (List ℕ)
 texts words = map string_bytes words
 
 -- ---- the command
 
--- an option of a name, with one value
+-- the rule of an option `--name` with one value
 abbrev pub option : List ℕ → Rule
 option name = record (new_rule name) { long = Some name }
 
--- a flag of a name, without a value
+-- the rule of a flag `--name` without a value
 abbrev pub flag : List ℕ → Rule
 flag name = record (new_rule name) { long = Some name; action = Some SetTrue }
 
--- the command with the arguments for its source: a FILE, which may be left out, and `--generate`
--- and `--restart` with one value each; the program's name is not among the arguments
+-- the command with the arguments that name its source: an optional FILE, and `--generate` and
+-- `--restart` with one value each; the program's name is not among the arguments
 abbrev pub with_source : App
 with_source =
     with_rule (with_rule (with_rule (on_top (λ s. record s { no_binary_name = true }) (new_app (codes "gams25"))) (new_rule (codes "file"))) (option (codes "generate"))) (option (codes "restart"))
 
--- the command without its flag: also with `--out` and `--save`, which have one value each
+-- the command without its flag: its source by FILE, `--generate` and `--restart`, and also `--out`
+-- and `--save`, which have one value each
 abbrev pub with_values : App
 with_values = with_rule (with_rule with_source (option (codes "out"))) (option (codes "save"))
 
--- the command, with the flag `--ranges`
+-- the whole command: FILE, the options `--generate`, `--restart`, `--out` and `--save`, and the
+-- flag `--ranges`
 abbrev pub gams25 : App
 gams25 = with_rule with_values (flag (codes "ranges"))
 
--- what the command finds in the arguments, if it accepts them
+-- the rows of names and values that the command finds in the arguments; None if it does not accept
+-- them
 abbrev pub rows_taken : List (List ℕ) → Option (List Row)
 rows_taken words = if takes gams25 words then Some (matches_of gams25 words) else None
 
 -- ---- what arguments request
 
--- the size of a generated model that a text names: the number from 1 to 30 whose decimal digits it
--- is
+-- the size of a generated model that a text names: the number from 1 to 30 with exactly these
+-- decimal digits; None for any other text
 abbrev pub size_of : List ℕ → Option ℕ
 size_of text = find (λ size. bytes_eq (decimal size) text) (range_with_len 1 30)
 
--- where a source comes from: the file of a name, a file that resumes from the saved state in
--- another one, or a generated model of a size
+-- where a source comes from: the file of this name; the saved state in the first file, from which
+-- the second one resumes; or a generated model of this size
 pub data Origin : Type 0 where
   in_file : List ℕ → Origin
   restarted : List ℕ → List ℕ → Origin
   generated : ℕ → Origin
 
--- the source that a FILE or a number to generate names, where exactly one of them is given; a file
--- may resume from a saved state, and a generated model may not
+-- where the source comes from, by the values of FILE, `--generate` and `--restart`; None unless
+-- exactly one of FILE and `--generate` is given, with a size for `--generate` and no `--restart`
+-- beside it
 abbrev pub origin_of : Option (List ℕ) → Option (List ℕ) → Option (List ℕ) → Option Origin
 origin_of (Some file) None None = Some (in_file file)
 origin_of (Some file) None (Some saved) = Some (restarted saved file)
 origin_of None (Some text) None = option_map generated (size_of text)
 origin_of _ _ _ = None
 
--- the name of the output after a file: FILE with a last `.gms` replaced by `.lst`, or with `.lst`
--- added if it does not end so
+-- the name of the output for a file: FILE with a last `.gms` replaced by `.lst`, or else with
+-- `.lst` added
 abbrev pub output_name : List ℕ → List ℕ
 output_name file =
     if bytes_eq (drop (length file - 4) file) (codes ".gms") then take (length file - 4) file ++ codes ".lst" else file ++ codes ".lst"
 
--- the name of the output that results from the source
+-- the name of the output if `--out` is not given, by the source
 abbrev pub own_output : Origin → List ℕ
 own_output (in_file file) = output_name file
 own_output (restarted saved file) = output_name file
 own_output (generated size) = codes "generate.lst"
 
--- What accepted arguments request: a source, the name of the output, the name of the file for the
--- last state if it is to be saved, and whether ranges are printed.
+-- What accepted arguments request: a source, the name of the output, the name of the file in which
+-- the last state is saved, if any, and whether ranges are printed.
 pub record Asked : Type 0 where
   pub source : Origin
   pub output : List ℕ
   pub save : Option (List ℕ)
   pub ranges : Bool
 
--- the output has the name that `--out` gives it, or else the one that results from the source
+-- the request with this source; the output has the name that `--out` gives it, or else the one that
+-- results from the source
 abbrev pub asked : Bool → Option (List ℕ) → Option (List ℕ) → Origin → Asked
 asked ranges save out source =
     record { source = source; output = unwrap_or out (own_output source); save = save; ranges = ranges }
 
--- whether a flag is given, by its value
+-- whether a flag is given: its value is `true`
 abbrev pub is_flag_given : Option (List ℕ) → Bool
 is_flag_given value = option_map_or (λ text. bytes_eq text (codes "true")) value false
 
--- what the command's matches request, if they name exactly one source
+-- the request of the names and values that the command finds in the arguments; None if they do not
+-- name exactly one source
 abbrev pub request_in : List Row → Option Asked
 request_in rows =
     option_map (asked (is_flag_given (first_of (codes "ranges") rows)) (first_of (codes "save") rows) (first_of (codes "out") rows)) (origin_of (first_of (codes "file") rows) (first_of (codes "generate") rows) (first_of (codes "restart") rows))
 
--- what the arguments request; they are accepted if the command accepts them, they name exactly one
--- source, and no generated model is to resume from a saved state
+-- what the arguments request; None, that is, they are refused, if the command does not accept them,
+-- they do not name exactly one source, or a generated model is to resume from a saved state
 abbrev pub request_of : List (List ℕ) → Option Asked
 request_of words = option_and_then request_in (rows_taken words)
 
 -- ---- what the program requests
 
--- the view of a source
+-- the view of a source of a request: where it comes from
 abbrev pub origin : Source → Origin
 origin (File name) = in_file name.now
 origin (Restart saved file) = restarted saved.now file.now
 origin (Generate size) = generated size
 
--- the view of a request
+-- the view of a request: its source, the name of its output, the file in which to save, if any, and
+-- whether ranges are printed
 abbrev pub asked_by : Request → Asked
 asked_by request =
     asked request.ranges (option_map (λ name. name.now) request.save) (option_map (λ name. name.now) request.out) (origin request.source)
 
 -- ---- lines
 
--- what is printed if the arguments are refused
+-- the line that is printed if the arguments are refused
 abbrev pub usage_line : List ℕ
 usage_line = printed_line (codes "usage: gams25 [--ranges] [--save FILE] [--restart FILE] [--out FILE] FILE | gams25 [--ranges] [--save FILE] [--out FILE] --generate N")
 
--- what is printed if the input cannot be read
+-- the line that is printed if this file, the input, cannot be read
 abbrev pub read_fault_line : List ℕ → List ℕ
 read_fault_line file = printed_line (codes "cannot read " ++ file)
 
--- what is printed of a generated model of a size: the status of the model, the level of the
--- objective as a text, and how many pivots there were
+-- the line that is printed for a generated model: its size, the status of the model, the
+-- objective's level as a text, and the number of pivots
 abbrev pub generated_line : ℕ → ℕ → List ℕ → ℕ → List ℕ
 generated_line size model_status objective pivots =
     printed_line (codes "generated " ++ decimal size ++ codes " by " ++ decimal size ++ codes ", model status " ++ decimal model_status ++ codes ", objective " ++ objective ++ codes ", pivots " ++ decimal pivots)
 
--- what is printed at the end: the status, how many solves there were, and the name of the output
+-- the line that is printed at the end: the status, the number of solves, and the name of the output
 abbrev pub closing_line : ℕ → ℕ → List ℕ → List ℕ
 closing_line status solves output =
     printed_line (codes "status " ++ decimal status ++ codes ", solves " ++ decimal solves ++ codes ", output " ++ output)
 
--- what is printed before the ranges of a solve, by its number from 1
+-- the line that is printed before the ranges of a solve, by its number from 1
 abbrev pub ranges_line : ℕ → List ℕ
 ranges_line solve = printed_line (codes "ranges of solve " ++ decimal solve)
 
--- what is printed of the range of a `right` side or a `cost`: its element, and the texts of its
--- ends, if it has them
+-- the line of a range: `what` is `right` for a right side or `cost` for a cost, followed by the
+-- element and the texts of the range's ends, or `-INF` and `+INF` without them
 abbrev pub range_line : List ℕ → List ℕ → Option (List ℕ) → Option (List ℕ) → List ℕ
 range_line what element low high =
     printed_line (codes "  " ++ what ++ codes " " ++ element ++ codes " from " ++ unwrap_or low (codes "-INF") ++ codes " to " ++ unwrap_or high (codes "+INF"))
 
--- what is printed of it if a step does not fit
+-- the line of a range that could not be computed, as a step exceeds the limit: `what` is `right`
+-- for a right side or `cost` for a cost, followed by the element
 abbrev pub not_shown_line : List ℕ → List ℕ → List ℕ
 not_shown_line what element = printed_line (codes "  " ++ what ++ codes " " ++ element ++ codes " not shown")

@@ -34,16 +34,18 @@ pub enum Source<'a> {
     Generate(u32),
 }
 
-/// What the arguments request.
+/// What the arguments of the command line request.
 #[derive(Clone, Copy)]
 pub struct Request<'a> {
-    /// Where the source comes from.
+    /// Where the source of the run comes from: a file, a file that resumes from a saved state, or a
+    /// generated model.
     pub source: Source<'a>,
-    /// The name that `--out` gives the output.
+    /// The value of `--out`, the name of the output; `None` if the arguments have no `--out`.
     pub out: Option<&'a str>,
-    /// The name that `--save` gives the file for the last state.
+    /// The value of `--save`, the name of the file in which the last state of the run is saved;
+    /// `None` if the arguments have no `--save`.
     pub save: Option<&'a str>,
-    /// Whether `--ranges` requests the ranges of each optimum.
+    /// Whether the arguments have `--ranges`, which requests the ranges of each optimum.
     pub ranges: bool,
 }
 
@@ -182,9 +184,10 @@ fn request_of_file<'a>(words: &'a [String]) -> Option<Request<'a>>
     }
 }
 
-/// What the arguments request. `None` means that they are refused: the command does not accept
-/// them, they do not name exactly one source, the value of `--generate` is no number from 1 to 30
-/// in plain digits, or a generated model is to resume from a saved state.
+/// What the arguments `words` request. `None` means that the arguments are refused: the command
+/// does not accept them, they do not name exactly one source, the value of `--generate` is no
+/// number from 1 to 30 in plain digits, or both `--generate` and `--restart` are given. The error
+/// is out of memory.
 pub fn request_of<'a>(alloc: Global, words: &'a [String]) -> Result<Option<Request<'a>>, AllocError>
     ensures { IfOk result (λ request. option_map asked_by request ≡ request_of (texts words.now)) }
 {
@@ -208,7 +211,9 @@ fn output_name(alloc: Global, file: &str) -> Result<String, AllocError>
     }
 }
 
-/// The name of the output: the value of `--out`, or else the name that results from the source.
+/// The name of the output: the value of `--out`, if that is given. Otherwise it is `generate.lst`
+/// for a generated model, and in any other case the name of the FILE with `.lst` in place of a last
+/// `.gms`, or else with `.lst` added. The error is out of memory.
 pub fn output_of(alloc: Global, request: Request) -> Result<String, AllocError>
     ensures { IfOk result (λ name. string_bytes name ≡ (asked_by request.entry).output) }
 {
@@ -219,22 +224,25 @@ pub fn output_of(alloc: Global, request: Request) -> Result<String, AllocError>
     }
 }
 
-/// What is printed if the arguments are refused: how the program is called, and a line feed.
+/// The line that is printed if the arguments are refused: it shows the arguments that the command
+/// accepts.
 pub fn usage_line() -> &'static str
     ensures { result.now ≡ usage_line }
 {
     USAGE
 }
 
-/// What is printed if the input cannot be read.
+/// The line that is printed if the input file named `file` cannot be read. The error is out of
+/// memory.
 pub fn read_fault_line(alloc: Global, file: &str) -> Result<String, AllocError>
     ensures { IfOk result (λ line. string_bytes line ≡ read_fault_line file.now) }
 {
     format!(in alloc; "cannot read {file}\n")
 }
 
-/// What is printed of a generated model of a size that was solved: the status of the model, the
-/// text of the objective's level, and how many pivots there were.
+/// The line that is printed after a generated model is solved. It has the size of the model, the
+/// number of its model status, the text `objective` of the objective's level, and the number of
+/// pivots. The error is out of memory.
 pub fn generated_line(
     alloc: Global,
     size: u32,
@@ -249,7 +257,9 @@ pub fn generated_line(
     )
 }
 
-/// What is printed at the end, after the listing of a source was written to its output.
+/// The line that is printed at the end, after the listing is written to the output. It has the
+/// number of the status of the run, the number of solves, and the name of the output. The error is
+/// out of memory.
 pub fn closing_line(
     alloc: Global,
     status: u8,
@@ -261,15 +271,18 @@ pub fn closing_line(
     format!(in alloc; "status {status}, solves {solves}, output {output}\n")
 }
 
-/// What is printed before the ranges of a solve, by its number from 1.
+/// The line that is printed before the ranges of a solve. `solve` is the number of the solve, from
+/// 1. The error is out of memory.
 pub fn ranges_line(alloc: Global, solve: usize) -> Result<String, AllocError>
     ensures { IfOk result (λ line. string_bytes line ≡ ranges_line solve) }
 {
     format!(in alloc; "ranges of solve {solve}\n")
 }
 
-/// What is printed of the range of a `right` side or a `cost`: its element, and the texts of its
-/// ends, if it has them.
+/// The line that is printed for one range. `what` is `right` for a range of a right side, and
+/// `cost` for a range of a cost; `element` is the text of the row or column. `low` and `high` are
+/// the texts of the ends: an absent `low` is printed as `-INF`, and an absent `high` as `+INF`. The
+/// error is out of memory.
 pub fn range_line(
     alloc: Global,
     what: &str,
@@ -285,7 +298,9 @@ pub fn range_line(
     format!(in alloc; "  {what} {element} from {from} to {to}\n")
 }
 
-/// What is printed of it if a step does not fit.
+/// The line that is printed for a range that is not computed, since a step of the computation
+/// exceeds the limit of the field. `what` is `right` for a range of a right side, and `cost` for a
+/// range of a cost; `element` is the text of the row or column. The error is out of memory.
 pub fn not_shown_line(alloc: Global, what: &str, element: &str) -> Result<String, AllocError>
     ensures { IfOk result (λ line. string_bytes line ≡ not_shown_line what.now element.now) }
 {

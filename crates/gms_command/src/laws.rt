@@ -1,15 +1,17 @@
-//! What arguments that are written part by part request.
-ghost use Rattle.gms_command.specs.Laws.{IsByParts, IsFile, IsOut, IsSave, NamesRestart, IsRanges, IsGenerate, IsRefusedEmpty, IsRefusedBesideGenerate, IsRefusedTwice};
+//! What arguments request that are written as a list of a FILE, options with their values, and the
+//! flag `--ranges`.
+ghost use Rattle.gms_command.specs.Laws.{IsByParts, IsFile, IsOut, IsSave, NamesRestart, IsRanges, IsGenerate, HasSize, IsRefusedEmpty, IsRefusedBesideGenerate, IsRefusedTwice};
 
-/// What arguments that are written part by part request: the name of a FILE, an option with its
-/// value in the next argument, and `--ranges`.
+/// What the arguments of the command line request. They are written as a list of parts: the name of
+/// a FILE, an option with its value in the next argument, or `--ranges`.
 ///
-/// They request what their parts say, in any order of the parts, and are refused if a part is given
-/// twice (`parts`). So a FILE alone is run with the output named after it, nothing saved, and no
-/// ranges (`file`); and each option changes what it says (`out`, `save`, `restart`, `ranges`,
-/// `generate`). An empty list of arguments is refused (`empty`), a FILE or `--restart` together
-/// with `--generate` is (`beside_generate`), and two FILEs or an option given twice are, wherever
-/// they are (`twice`). No file's name and no value of an option begins with `-` here.
+/// The arguments request what their parts request, in any order of the parts, and are refused if a
+/// part is given twice (`parts`). So a FILE alone is run with the output named after it, nothing
+/// saved, and no ranges (`file`). Each option changes what its name says (`out`, `save`, `restart`,
+/// `ranges`, `generate`). A generated model that is requested has a size from 1 to 30 (`sizes`).
+/// Three kinds of arguments are refused: an empty list (`empty`); `--generate` with a FILE or with
+/// `--restart` (`beside_generate`); and two FILEs or an option given twice, at any positions
+/// (`twice`). In all laws except `sizes`, no file's name and no value of an option begins with `-`.
 pub fn argument_laws()
     ensures parts { IsByParts }
     ensures file { IsFile }
@@ -18,6 +20,7 @@ pub fn argument_laws()
     ensures restart { NamesRestart }
     ensures ranges { IsRanges }
     ensures generate { IsGenerate }
+    ensures sizes { HasSize }
     ensures empty { IsRefusedEmpty }
     ensures beside_generate { IsRefusedBesideGenerate }
     ensures twice { IsRefusedTwice }

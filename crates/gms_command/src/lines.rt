@@ -96,7 +96,7 @@ fn push_right<F: ExactField>(
     }
 }
 
-/// Appends the lines of the right sides of rows.
+/// Appends the lines of the rows' right sides, where the list has the range of each row.
 pub(crate) fn push_rights<F: ExactField>(
     alloc: Global,
     names: &Labels,
@@ -114,7 +114,7 @@ pub(crate) fn push_rights<F: ExactField>(
     Ok(())
 }
 
-/// Appends the lines of the costs of columns.
+/// Appends the lines of the columns' costs, where the list has the range of each column.
 pub(crate) fn push_costs<F: ExactField>(
     alloc: Global,
     names: &Labels,

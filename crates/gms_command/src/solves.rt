@@ -64,13 +64,16 @@ fn push_answer<F: ExactField>(
     }
 }
 
-/// What is printed of the ranges of the solves of a program, with its names and labels, by their
-/// linear programs and their answers in order.
+/// The text of the ranges that are printed for the solves of a run. `solved` has the linear program
+/// of each solve and `answers` has the answer, both in the order of the solves. `names` and
+/// `labels` are the tables of the program that is run.
 ///
-/// For each answer that is an optimum: how far each right side and each cost may move, by itself,
-/// before the proof of the answer changes (Chvatal, Linear Programming, chapter 10). A line has the
-/// number of the solve, from 1; then follow one line for each row that constrains something and one
-/// for each column. The error means that memory ran out.
+/// The text has, for each answer that is an optimum, a line with the number of the solve, from 1.
+/// One line for the right side of each row, except nonbinding rows (`=n=`), and one for the cost of
+/// each column follow. A right side's range has its values for which the basis of the final
+/// dictionary remains feasible. A cost's range has its values for which this basis remains optimal.
+/// All other numbers stay the same (Chvatal, Linear Programming, chapter 10). The error is out of
+/// memory.
 pub fn ranges_text<F: ExactField>(
     alloc: Global,
     names: &Labels,

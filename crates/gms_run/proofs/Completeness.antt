@@ -26,6 +26,7 @@ use Rattle.gms_run.specs.Listings.{IsAcceptedScript, IsExecuted, IsProgramToRun,
 use Rattle.gms_run.specs.Statuses.{CanRun, CountsSo, EndsByNoFault, IsContentOf, HasFile, HasOrigin, IsFileOf, IsGood, IsGoodSave, IsReadyFor, IsRun, IsRunOf, IsInputOf, MeetsNoFault, NamesProgram, NamesSource}
 use Rattle.gms_parse.specs.Outcomes.{program_view}
 use Rattle.gms_parse.proofs.OneReading.{one_program, program_or_fault}
+use Rattle.gms_run.proofs.GeneratedRuns.{can_run}
 
 -- two values of one option are one
 pub one_value : {A : Type 0} {o : Option A} {x y : A} → o ≡ Some x → o ≡ Some y → x ≡ y
@@ -129,7 +130,7 @@ completes status solving words old new run counts unmet n none = by status run c
     by Done run counts unmet = inl refl
     by Execution run counts unmet = inr refl
     by Usage run counts unmet = absurd (names_some words old.outside n.source run.0)
-    by Compile run counts unmet = absurd (not_refused solving old.outside new.outside words run.0 run.1.1 n.source (one_value n.source.named run.1.0) n.can_run)
+    by Compile run counts unmet = absurd (not_refused solving old.outside new.outside words run.0 run.1.1 n.source (one_value n.source.named run.1.0) (can_run solving.before.names old.outside words n))
     by ReadFault run counts unmet = absurd (fault_met ReadFault words old new n.source none (λ met. met.0 counts) unmet)
     by WriteFault run counts unmet = absurd (fault_met WriteFault words old new n.source none (λ met. met.1 counts) unmet)
 

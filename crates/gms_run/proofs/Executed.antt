@@ -1,5 +1,5 @@
 -- A statement that was executed is listed.
-use Rattle.std.proofs.Common.{Box, ◌≡◌, ℕ, true, false, List, [], ◌∷◌, ◌++◌, map, Some, None, Result, Ok, Err, refl, sym, ap, ◌∙◌, subst, append_assoc, append-nil}
+use Rattle.std.proofs.Common.{Bool, Box, ◌≡◌, ℕ, true, false, List, [], ◌∷◌, ◌++◌, map, Some, None, Result, Ok, Err, refl, sym, ap, ◌∙◌, subst, append_assoc, append-nil}
 use Rattle.std.specs.List.{All}
 use Rattle.std.specs.declared.alloc.Global.{Global}
 use Rattle.std.proofs.lemmas.Grind.{flat_map-append}
@@ -26,7 +26,7 @@ use Rattle.gms_list.specs.Conditions.{IsListable}
 use Rattle.gms_list.specs.ListingText.{event_text, events_text}
 use Rattle.gms_run.specs.Solving.{HavePathsExtended}
 use Rattle.gms_run.proofs.Proved.{listable}
-use Rattle.gms_run.specs.InnerSteps.{Between, IsListed, course_at, programs_in}
+use Rattle.gms_run.specs.InnerSteps.{Between, IsListed, course_at, kept_if, programs_in}
 
 -- all events are valid, where none were shown before
 pub all_occur : (rules : List SolverRule) (answers : List (Answer Frac)) (before events : List (OwnEvent Frac)) → before ≡ [] → ShowsValidEvents frac_value frac_limit rules answers before events → All (IsValidEvent frac_value frac_limit rules answers) events
@@ -38,7 +38,7 @@ pub all_listable : (rules : List SolverRule) (answers : List (Answer Frac)) (eve
 all_listable rules answers events are =
     All-weaker (IsValidEvent frac_value frac_limit rules answers) (IsListable frac_value answers) (listable frac_value frac_limit rules answers) events are
 
-module _ (program : Program Frac) (rules : List SolverRule) (does : Course → Course) (old new : Between) (events : List (OwnEvent Frac)) (is_after : (beginning : List Event) (c : Course) → does (following beginning c) ≡ following beginning (does c)) where
+module _ (keep : Bool) (program : Program Frac) (rules : List SolverRule) (does : Course → Course) (old new : Between) (events : List (OwnEvent Frac)) (is_after : (beginning : List Event) (c : Course) → does (following beginning c) ≡ following beginning (does c)) where
   abbrev numbers : List (Answer Number)
   numbers = map (answer_numbers frac_value) new.answers
 
@@ -56,8 +56,8 @@ module _ (program : Program Frac) (rules : List SolverRule) (does : Course → C
   after_prefix beginning left = ap (λ es. does (course_at old es left None)) (sym (append-nil beginning)) ∙ is_after beginning (course_from_view frac_value seen_old left)
 
   -- After a statement without a fault the run continues.
-  pub listed_on : {A : Type 0} (x : A) (none : List (OwnEvent Frac)) (before after : List ℕ) → none ≡ [] → Runs frac_value (let r : Result A (ExecStopOrMemory Frac) = Ok x in r) does (seen_before none) seen_new → All (IsValidEvent frac_value frac_limit rules new.answers) events → HavePathsExtended old.solvers new.solvers new.answers (events_in frac_value events) → new.programs ≡ old.programs ++ programs_in events →
-      after ≡ before ++ events_text program.names program.labels frac_limit numbers (events_in frac_value events) → IsListed true does program rules old new before after
+  pub listed_on : {A : Type 0} (x : A) (none : List (OwnEvent Frac)) (before after : List ℕ) → none ≡ [] → Runs frac_value (let r : Result A (ExecStopOrMemory Frac) = Ok x in r) does (seen_before none) seen_new → All (IsValidEvent frac_value frac_limit rules new.answers) events → HavePathsExtended old.solvers new.solvers new.answers (events_in frac_value events) → new.programs ≡ old.programs ++ kept_if keep (programs_in events) →
+      after ≡ before ++ events_text program.names program.labels frac_limit numbers (events_in frac_value events) → IsListed keep true does program rules old new before after
   listed_on {A} x none before after e given valid extended programs text =
       let runs : Runs frac_value (let r : Result A (ExecStopOrMemory Frac) = Ok x in r) does seen_old seen_new = subst (λ es. Runs frac_value (let r : Result A (ExecStopOrMemory Frac) = Ok x in r) does (seen_before es) seen_new) e given in
       record {
@@ -74,9 +74,9 @@ module _ (program : Program Frac) (rules : List SolverRule) (does : Course → C
       }
 
   -- A statement that a stop ended is listed with its fault.
-  pub listed_stop : {A : Type 0} (stop : Box (ExecStop Frac) Global) (none : List (OwnEvent Frac)) (before middle after : List ℕ) → none ≡ [] → Runs frac_value (let r : Result A (ExecStopOrMemory Frac) = Err (Stop stop) in r) does (seen_before none) seen_new → All (IsValidEvent frac_value frac_limit rules new.answers) events → HavePathsExtended old.solvers new.solvers new.answers (events_in frac_value events) → new.programs ≡ old.programs ++ programs_in events →
+  pub listed_stop : {A : Type 0} (stop : Box (ExecStop Frac) Global) (none : List (OwnEvent Frac)) (before middle after : List ℕ) → none ≡ [] → Runs frac_value (let r : Result A (ExecStopOrMemory Frac) = Err (Stop stop) in r) does (seen_before none) seen_new → All (IsValidEvent frac_value frac_limit rules new.answers) events → HavePathsExtended old.solvers new.solvers new.answers (events_in frac_value events) → new.programs ≡ old.programs ++ kept_if keep (programs_in events) →
       middle ≡ before ++ events_text program.names program.labels frac_limit numbers (events_in frac_value events) →
-      after ≡ middle ++ event_text program.names program.labels frac_limit numbers (stops (fault_of frac_value stop)) → IsListed false does program rules old new before after
+      after ≡ middle ++ event_text program.names program.labels frac_limit numbers (stops (fault_of frac_value stop)) → IsListed keep false does program rules old new before after
   listed_stop {A} stop none before middle after e given valid extended programs text more =
       let runs : Runs frac_value (let r : Result A (ExecStopOrMemory Frac) = Err (Stop stop) in r) does seen_old seen_new = subst (λ es. Runs frac_value (let r : Result A (ExecStopOrMemory Frac) = Err (Stop stop) in r) does (seen_before es) seen_new) e given in
       let fault = fault_of frac_value stop in

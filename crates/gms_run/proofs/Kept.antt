@@ -1,5 +1,5 @@
--- The programs of the solves that were shown are kept.
-use Rattle.std.proofs.Common.{◌≡◌, ℕ, zero, suc, ◌+◌, List, [], ◌∷◌, ◌++◌, length, map, Option, Some, None, refl, sym, ap, ◌∙◌, subst, append_assoc, append-nil, arith}
+-- The programs of the solves that were shown are kept, if requested.
+use Rattle.std.proofs.Common.{◌≡◌, ℕ, zero, suc, ◌+◌, Bool, true, false, List, [], ◌∷◌, ◌++◌, length, map, Option, Some, None, refl, sym, ap, ◌∙◌, subst, append_assoc, append-nil, arith}
 use Rattle.std.specs.Prelude.{slice_get, option_to_list, IfSome}
 use Rattle.std.specs.List.{All, range_with_len}
 use Rattle.std.proofs.lemmas.List.Elements.{All-head, All-tail}
@@ -16,7 +16,7 @@ use Rattle.lp_core.specs.Numbers.{lp_numbers}
 use Rattle.gms_exec.specs.Run.{Course}
 use Rattle.gms_exec.specs.ValidEvents.{IsValidEvent, IsValidSolve}
 use Rattle.gms_run.specs.Solving.{solves_in}
-use Rattle.gms_run.specs.InnerSteps.{IsAnsweredAt, KeepsPrograms, programs_in}
+use Rattle.gms_run.specs.InnerSteps.{IsAnsweredAt, KeepsPrograms, kept_if, programs_in}
 use Rattle.gms_run.proofs.Numbered.{IsNumbered, places_in}
 
 -- the programs of two lists of events
@@ -26,6 +26,24 @@ programs-append (own.Display line items ∷ es) more = programs-append es more
 programs-append (own.Abort line items ∷ es) more = programs-append es more
 programs-append (own.Fault stop ∷ es) more = programs-append es more
 programs-append (own.Solve line model equations lp answer solver settings level ∷ es) more = ap (λ ps. lp ∷ ps) (programs-append es more)
+
+-- where they are not requested nothing is kept
+pub kept_nothing : (keep : Bool) (before ps : List (Lp Frac)) → keep ≡ false → before ≡ before ++ kept_if keep ps
+kept_nothing keep before ps none = sym (append-nil before) ∙ ap (λ k. before ++ kept_if k ps) (sym none)
+
+-- where they are requested all are kept
+pub kept_all : (keep : Bool) (before after ps : List (Lp Frac)) → keep ≡ true → after ≡ before ++ ps → after ≡ before ++ kept_if keep ps
+kept_all keep before after ps all is = is ∙ ap (λ k. before ++ kept_if k ps) (sym all)
+
+-- of no events there are none
+pub kept_start : (keep : Bool) → kept_if keep [] ≡ []
+kept_start true = refl
+kept_start false = refl
+
+-- of two lists of events those of one after those of the other
+pub kept-append : (keep : Bool) (es more : List (OwnEvent Frac)) → kept_if keep (programs_in (es ++ more)) ≡ kept_if keep (programs_in es) ++ kept_if keep (programs_in more)
+kept-append true es more = programs-append es more
+kept-append false es more = refl
 
 -- one more program is kept, if an event is a solve
 pub kept_more : (before kept : List (Lp Frac)) (es : List (OwnEvent Frac)) (e : OwnEvent Frac) (one : Option (Lp Frac)) → kept ≡ before ++ programs_in es → option_to_list one ≡ programs_in (e ∷ []) →

@@ -4,6 +4,7 @@ pub mod Completeness
 pub mod Executed
 pub mod Executing
 pub mod FirstSettings
+pub mod GeneratedRuns
 pub mod Restorable
 pub mod Headlined
 pub mod Joined

@@ -24,8 +24,8 @@ use Rattle.gms_exec.proofs.ValidCalls.{answered_by_valid}
 use Rattle.gms_list.specs.ListingText.{event_text, events_text}
 use Rattle.gms_list.specs.SolveText.{solve_text}
 use Rattle.gms_run.specs.Solving.{HavePathsExtended}
-use Rattle.gms_run.specs.InnerSteps.{Between, IsListed, course_at, programs_in}
-use Rattle.gms_run.proofs.Kept.{programs-append}
+use Rattle.gms_run.specs.InnerSteps.{Between, IsListed, course_at, kept_if, programs_in}
+use Rattle.gms_run.proofs.Kept.{kept-append, kept_start}
 use Rattle.gms_run.proofs.Paths.{extended_none, extended_more, occurs-more}
 
 module _ (rules : List SolverRule) where
@@ -77,15 +77,15 @@ module _ (rules : List SolverRule) where
         ap (λ t. t ++ texts (answers ++ more) (events_in frac_value es)) (text-more answers more e (All-head (Occurs answers) e es is)) ∙ ap (λ t. one_text answers (event_in frac_value e) ++ t) (texts-more answers more es (All-tail (Occurs answers) e es is))
 
 -- nothing was executed
-pub listed_none : (program : Program Frac) (rules : List SolverRule) (now : Between) (text : List ℕ) → IsListed true (λ c. c) program rules now now text text
-listed_none program rules now text =
+pub listed_none : (keep : Bool) (program : Program Frac) (rules : List SolverRule) (now : Between) (text : List ℕ) → IsListed keep true (λ c. c) program rules now now text text
+listed_none keep program rules now text =
     record {
       shown = [];
       fault = None;
       end = refl;
       fresh = [];
       answers = sym (append-nil now.answers);
-      programs = sym (append-nil now.programs);
+      programs = sym (ap (λ kept. now.programs ++ kept) (kept_start keep) ∙ append-nil now.programs);
       valid = All-nil (IsValidEvent frac_value frac_limit rules now.answers);
       extended = extended_none now.solvers now.answers;
       comes = λ events more. ap (λ es. course_at now es more None) (sym (append-nil events));
@@ -93,9 +93,9 @@ listed_none program rules now text =
     }
 
 -- A second piece was executed after a first.
-pub listed_more : (program : Program Frac) (rules : List SolverRule) (continues : Bool) (first next : Course → Course) (a b c : Between) (x y z : List ℕ) →
-    IsListed true first program rules a b x y → IsListed continues next program rules b c y z → IsListed continues (λ course. while_it_runs next (first course)) program rules a c x z
-listed_more program rules continues first next a b c x y z p q =
+pub listed_more : (keep : Bool) (program : Program Frac) (rules : List SolverRule) (continues : Bool) (first next : Course → Course) (a b c : Between) (x y z : List ℕ) →
+    IsListed keep true first program rules a b x y → IsListed keep continues next program rules b c y z → IsListed keep continues (λ course. while_it_runs next (first course)) program rules a c x z
+listed_more keep program rules continues first next a b c x y z p q =
     record {
       shown = p.shown ++ q.shown;
       fault = q.fault;
@@ -103,8 +103,8 @@ listed_more program rules continues first next a b c x y z p q =
       fresh = p.fresh ++ q.fresh;
       answers = q.answers ∙ ap (λ given. given ++ q.fresh) p.answers ∙ append_assoc a.answers p.fresh q.fresh;
       programs =
-          q.programs ∙ ap (λ kept. kept ++ programs_in q.shown) p.programs ∙ append_assoc a.programs (programs_in p.shown) (programs_in q.shown)
-          ∙ ap (λ kept. a.programs ++ kept) (sym (programs-append p.shown q.shown));
+          q.programs ∙ ap (λ kept. kept ++ kept_if keep (programs_in q.shown)) p.programs ∙ append_assoc a.programs (kept_if keep (programs_in p.shown)) (kept_if keep (programs_in q.shown))
+          ∙ ap (λ kept. a.programs ++ kept) (sym (kept-append keep p.shown q.shown));
       valid = All-append (IsValidEvent frac_value frac_limit rules c.answers) p.shown q.shown (subst (λ given. All (IsValidEvent frac_value frac_limit rules given) p.shown) (sym q.answers) (all_valid-more rules b.answers q.fresh p.shown p.valid)) q.valid;
       extended = extended;
       comes = comes;

@@ -151,9 +151,9 @@ listed_program status solving loaded_input to_run is_to_run solved halts = by st
     by WriteFault h = absurd h
 
 -- The listing of a program that ended.
-pub prepares_program : (status : Status) (solving : Solving) (old new : Outside) (loaded_input : LoadedInput) (left : List ℕ) (to_run : ProgramToRun) (last : State) (programs : List (Lp Frac)) → IsProgramToRun solving.before.names loaded_input to_run →
-    EndsProgram status to_run solving last programs old new left → Prepares status solving old new loaded_input left
-prepares_program status solving old new loaded_input left to_run last programs is_to_run e =
+pub prepares_program : (keep : Bool) (status : Status) (solving : Solving) (old new : Outside) (loaded_input : LoadedInput) (left : List ℕ) (to_run : ProgramToRun) (last : State) (programs : List (Lp Frac)) → IsProgramToRun solving.before.names loaded_input to_run →
+    EndsProgram keep status to_run solving last programs old new left → Prepares status solving old new loaded_input left
+prepares_program keep status solving old new loaded_input left to_run last programs is_to_run e =
     record {
       body = body_of to_run solving;
       listing = listed_program status solving loaded_input to_run is_to_run e.ends.solved e.ends.halts;
@@ -174,33 +174,33 @@ unwritten_program solving old new loaded_input to_run is_to_run b =
 -- ---- what is printed at the end
 
 -- The remarks on a run that ended are the expected ones.
-pub remarked : (status : Status) (solving : Solving) (request : Asked) (loaded_input : LoadedInput) (text : List ℕ) (to_run : ProgramToRun) (last : State) (solved : List (Lp Frac)) → IsProgramToRun solving.before.names loaded_input to_run → Ends status to_run solving last solved →
+pub remarked : (status : Status) (solving : Solving) (request : Asked) (loaded_input : LoadedInput) (text : List ℕ) (to_run : ProgramToRun) (last : State) (solved : List (Lp Frac)) → IsProgramToRun solving.before.names loaded_input to_run → Ends request.ranges status to_run solving last solved →
     IsRemarked request to_run.program last solved solving.answers text → AreRemarks status solving request loaded_input text
 remarked status solving request loaded_input text to_run last solved is_to_run ends (ranges, line, ranged, told, split) = (
   ranges,
   line,
-  spans request.ranges status ends.halts ranged,
+  spans request.ranges status refl ends.halts ranged,
   tells request.source status ends.halts told,
   split,
 )
   where
-    of_spans : SaysRanges to_run.program.names to_run.program.labels frac_limit 1 (map (lp_numbers frac_value) solved) (numbers_of solving.answers) ranges → TellsSpans solving loaded_input ranges
-    of_spans said =
+    of_spans : request.ranges ≡ true → SaysRanges to_run.program.names to_run.program.labels frac_limit 1 (map (lp_numbers frac_value) solved) (numbers_of solving.answers) ranges → TellsSpans solving loaded_input ranges
+    of_spans asked said =
         record {
           to_run = to_run;
           is_to_run = is_to_run;
-          in_order = ends.kept.in_order;
-          said = subst (λ (programs : List (Lp Number)). SaysRanges to_run.program.names to_run.program.labels frac_limit 1 programs (numbers_of solving.answers) ranges) ends.kept.shown said;
+          in_order = (ends.kept asked).in_order;
+          said = subst (λ (programs : List (Lp Number)). SaysRanges to_run.program.names to_run.program.labels frac_limit 1 programs (numbers_of solving.answers) ranges) (ends.kept asked).shown said;
         }
 
-    spans : (asked : Bool) (s : Status) → HaltsSo s (course_of to_run solving).halted → IsRanged asked to_run.program solved solving.answers ranges → TellsRanges asked s solving loaded_input ranges
-    spans false s h said = said
-    spans true Done h said = of_spans said
-    spans true Execution h said = of_spans said
-    spans true Usage h said = absurd h
-    spans true Compile h said = absurd h
-    spans true ReadFault h said = absurd h
-    spans true WriteFault h said = absurd h
+    spans : (asked : Bool) (s : Status) → request.ranges ≡ asked → HaltsSo s (course_of to_run solving).halted → IsRanged asked to_run.program solved solving.answers ranges → TellsRanges asked s solving loaded_input ranges
+    spans false s is h said = said
+    spans true Done is h said = of_spans is said
+    spans true Execution is h said = of_spans is said
+    spans true Usage is h said = absurd h
+    spans true Compile is h said = absurd h
+    spans true ReadFault is h said = absurd h
+    spans true WriteFault is h said = absurd h
 
     of_model : (size : ℕ) → IsModelLine size to_run.program last solving.answers line → TellsModel solving size loaded_input line
     of_model size told =
@@ -217,7 +217,7 @@ remarked status solving request loaded_input text to_run last solved is_to_run e
     tells (generated size) WriteFault h told = absurd h
 
 -- The save of the last state of a program that ended.
-pub saves_program : (status : Status) (solving : Solving) (request : Asked) (loaded_input : LoadedInput) (bytes : List ℕ) (to_run : ProgramToRun) (last : State) (programs : List (Lp Frac)) (solvers : List (List ℕ)) → solvers ≡ solving.before.names → All IsSolverName solving.before.names → (is_to_run : IsProgramToRun solving.before.names loaded_input to_run) → IfSome is_to_run.script.saved (IsGoneOn solving.before.names is_to_run.script.source is_to_run.script.line) → Ends status to_run solving last programs →
+pub saves_program : (status : Status) (solving : Solving) (request : Asked) (loaded_input : LoadedInput) (bytes : List ℕ) (to_run : ProgramToRun) (last : State) (programs : List (Lp Frac)) (solvers : List (List ℕ)) → solvers ≡ solving.before.names → All IsSolverName solving.before.names → (is_to_run : IsProgramToRun solving.before.names loaded_input to_run) → IfSome is_to_run.script.saved (IsGoneOn solving.before.names is_to_run.script.source is_to_run.script.line) → Ends request.ranges status to_run solving last programs →
     IsSave status request solvers to_run.source to_run.program last bytes → SavesSo status solving request loaded_input bytes
 saves_program status solving request loaded_input bytes to_run last programs solvers names named is_to_run origin ends = by (save_file status request)
   where
@@ -236,7 +236,7 @@ saves_program status solving request loaded_input bytes to_run last programs sol
         }
 
 -- What follows the listing of a program that ended.
-pub follows_program : (status : Status) (solving : Solving) (request : Asked) (loaded_input : LoadedInput) (text bytes : List ℕ) (to_run : ProgramToRun) (last : State) (programs : List (Lp Frac)) (solvers : List (List ℕ)) → (is_to_run : IsProgramToRun solving.before.names loaded_input to_run) → IfSome is_to_run.script.saved (IsGoneOn solving.before.names is_to_run.script.source is_to_run.script.line) → Ends status to_run solving last programs →
+pub follows_program : (status : Status) (solving : Solving) (request : Asked) (loaded_input : LoadedInput) (text bytes : List ℕ) (to_run : ProgramToRun) (last : State) (programs : List (Lp Frac)) (solvers : List (List ℕ)) → (is_to_run : IsProgramToRun solving.before.names loaded_input to_run) → IfSome is_to_run.script.saved (IsGoneOn solving.before.names is_to_run.script.source is_to_run.script.line) → Ends request.ranges status to_run solving last programs →
     IsRemarked request to_run.program last programs solving.answers text → IsSave status request solvers to_run.source to_run.program last bytes → solvers ≡ solving.before.names → All IsSolverName solving.before.names → Follows status solving request loaded_input text bytes
 follows_program status solving request loaded_input text bytes to_run last programs solvers is_to_run origin ends told saved names named =
     record { remarks = remarked status solving request loaded_input text to_run last programs is_to_run ends told; saves = saves_program status solving request loaded_input bytes to_run last programs solvers names named is_to_run origin ends saved }
@@ -275,9 +275,9 @@ answered_by rules answers programs events kept =
     at place (Some lp) (settings, occurs) =
         subst (λ (o : Option (Answer Frac)). IfSome o (IsSomeAnswer frac_value frac_limit lp)) (sym occurs.occurs) (record { formed = occurs.formed; iterlim = settings.iterlim; rule = Legal; is_answer = legal_under frac_value frac_limit lp settings.iterlim occurs.rule occurs.given occurs.is_answer })
 
--- each solve of a program that ended is answered
-pub ends_answered : (status : Status) (to_run : ProgramToRun) (solving : Solving) (last : State) (programs : List (Lp Frac)) → Ends status to_run solving last programs → AreSomeAnswers frac_value frac_limit programs solving.answers
-ends_answered status to_run solving last programs ends = answered_by solving.before.rules solving.answers programs (course_of to_run solving).events ends.kept
+-- each solve of a program that ended is answered, where the programs were kept
+pub ends_answered : (keep : Bool) (status : Status) (to_run : ProgramToRun) (solving : Solving) (last : State) (programs : List (Lp Frac)) → Ends keep status to_run solving last programs → keep ≡ true → AreSomeAnswers frac_value frac_limit programs solving.answers
+ends_answered keep status to_run solving last programs ends requested = answered_by solving.before.rules solving.answers programs (course_of to_run solving).events (ends.kept requested)
 
 -- ---- the last line
 

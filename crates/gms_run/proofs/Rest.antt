@@ -21,14 +21,14 @@ use Rattle.gms_run.specs.declared.status.Status.{Status}
 use Rattle.gms_run.specs.declared.status.Status.TheVariants.{Done, Execution}
 use Rattle.gms_run.specs.Solving.{HavePathsExtended, Solvers, Solving}
 use Rattle.gms_run.specs.ProgramsToRun.{IsRunSolved, ProgramToRun, course_of, first_of, shown_by}
-use Rattle.gms_run.specs.InnerSteps.{Between, Ends, IsListed, KeepsPrograms, course_at}
+use Rattle.gms_run.specs.InnerSteps.{Between, Ends, IsListed, KeepsPrograms, course_at, kept_if, programs_in}
 use Rattle.gms_run.proofs.Kept.{keeps_programs}
 use Rattle.gms_run.proofs.Listed.{halted_stays, in_two, texts-more}
 use Rattle.gms_run.proofs.Numbered.{numbered_program}
 use Rattle.gms_run.proofs.Paths.{extended_quiet}
 use Rattle.gms_run.proofs.Settled.{AreSettled, settled_by_valid, settled_more}
 
-module _ (to_run : ProgramToRun) (before : Solvers) where
+module _ (to_run : ProgramToRun) (before : Solvers) (keep : Bool) where
   abbrev pub statement_of : Stmt Frac → OfStatement
   statement_of = of_statement frac_value frac_limit (record { program = to_run.program; solvers = before.names })
 
@@ -46,7 +46,7 @@ module _ (to_run : ProgramToRun) (before : Solvers) where
 
   -- the first `i` statements were executed
   abbrev pub Done_so : Bool → ℕ → Between → List ℕ → Type 0
-  Done_so continues i now text = IsListed continues (in_sequence (take i statements) []) to_run.program before.rules begin now [] text
+  Done_so continues i now text = IsListed keep continues (in_sequence (take i statements) []) to_run.program before.rules begin now [] text
 
   -- each of some statements of the program is quiet without answers
   are_quiet : (ss : List (Stmt Frac)) → AreQuiet (map statement_of ss)
@@ -110,11 +110,12 @@ module _ (to_run : ProgramToRun) (before : Solvers) where
     settled_here : AreSettled before.rules now.answers (events_in frac_value p.shown)
     settled_here = settled_by_valid before.rules now.answers p.shown p.valid
 
-    -- where the program shows no more than these events, the programs of its solves were kept
+    -- where the program shows no more than these events, the programs of its solves were kept, if
+    -- requested
     kept_as : (course : Course) → course_of to_run (solving_with now) ≡ course → course.events ≡ events_in frac_value p.shown → course.taken ≡ length now.answers →
-        KeepsPrograms before.rules now.answers now.programs (course_of to_run (solving_with now)).events
-    kept_as course is same taken =
-        subst (λ programs. KeepsPrograms before.rules now.answers programs (course_of to_run (solving_with now)).events) (sym p.programs)
+        keep ≡ true → KeepsPrograms before.rules now.answers now.programs (course_of to_run (solving_with now)).events
+    kept_as course is same taken requested =
+        subst (λ programs. KeepsPrograms before.rules now.answers programs (course_of to_run (solving_with now)).events) (sym (p.programs ∙ ap (λ k. kept_if k (programs_in p.shown)) requested))
         (keeps_programs before.rules now.answers (course_of to_run (solving_with now)) p.shown (numbered_program to_run (solving_with now)) (ap (λ c. c.events) is ∙ same) (ap (λ c. c.taken) is ∙ taken) p.valid)
 
   -- What the first statements show stays where more answers are given.
@@ -134,7 +135,7 @@ module _ (to_run : ProgramToRun) (before : Solvers) where
   -- What a program that ended shows.
   pub record EndsWith (status : Status) (at : Between) (text : List ℕ) : Type 0 where
     pub shown : shown_by to_run (solving_with at) ≡ text
-    pub ends : Ends status to_run (solving_with at) at.state at.programs
+    pub ends : Ends keep status to_run (solving_with at) at.state at.programs
 
   -- Where a fault stopped the last statement that was executed, the program ends there.
   pub ends_stopped : (i : ℕ) (now : Between) (text : List ℕ) → Done_so false i now text → EndsWith Execution now text

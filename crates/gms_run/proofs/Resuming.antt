@@ -8,10 +8,9 @@ use Rattle.gq_frac.specs.Frac.{frac_value}
 use Rattle.gms_ast.specs.declared.program.Program.{Program}
 use Rattle.gms_ast.specs.declared.program.Stmt.{Stmt}
 use Rattle.gms_ast.specs.Trees as tree
-use Rattle.gms_store.specs.State.{State, Content, undeclared, alias_of, set_of, parameter_of, variable_of, equation_of, model_with, Symbol, no_symbol, symbol_at, alias_target, base_of, symbol_of, members_in, members_of}
+use Rattle.gms_store.specs.State.{State, Symbol, no_symbol, symbol_at, alias_target, base_of, symbol_of, members_in, members_of}
 use Rattle.gms_store.specs.Declarations.{is_undeclared, declared_state}
 use Rattle.gms_store.specs.Overlays.{overlaid_symbols}
-use Rattle.gms_save_text.specs.Validity.{emptied}
 use Rattle.gms_rows.specs.Plain.{ArePlain}
 use Rattle.gms_rows.specs.Rows.{Definition, definitions}
 use Rattle.gms_exec.specs.Dimensions.{AreOverOne, AreOneDimensional}

@@ -48,7 +48,7 @@ module _ (rules : List SolverRule) (answers : List (Answer Frac)) where
   abbrev pub AreSettled : List Event → Type 0
   AreSettled events = AreAnswered frac_value frac_limit rules answers events × SearchesEnd rules answers events
 
-  -- ---- what stands
+  -- ---- what is settled
 
   solve_ends : (lp : Lp Frac) (place : ℕ) (settings : Settings) → IsValidSolve frac_value frac_limit rules answers lp place settings →
       (rule : SolverRule) → slice_get rules settings.solver ≡ Some rule → IsEnough rule (variable_count (λ (x : Number). x) (lp_numbers frac_value lp)) settings.iterlim →

@@ -38,24 +38,26 @@ run_of program solving =
 
 -- ---- listings
 
--- The source is no program: the listing names its first fault.
+-- The source is no program, and `text` is its listing, which names the first fault.
 pub record IsFaultListing (source text : List ℕ) : Type 0 where
   pub fault : SourceFault
   pub is_first : IsSourceFault frac_limit source fault
   pub listing : text ≡ refused_listing 1 source fault
 
--- The source is a program that has compile errors: the listing has each of them.
+-- The source is a program that has compile errors, and `text` is its listing, which has each of
+-- them.
 pub record IsErrorListing (solvers : List (List ℕ)) (source text : List ℕ) : Type 0 where
   pub program : Program Frac
   pub is_program : IsProgram frac_limit source frac_value program
   pub some : compile_errors frac_value program solvers ≢ []
   pub listing : text ≡ errors_listing 1 source (compile_errors frac_value program solvers)
 
--- The source is a program without errors. Its run takes all answers: none remains. Each solve
--- has an answer of the linear program that its model means at that moment, with the certificate
--- that proves it (`answered`), and what each answer says of plans is so (`says_so`). With Done
--- every statement was executed, with Execution an execution error stopped the run. The listing is
--- the text of the events of the run, which echoes the source from line 1.
+-- The source is a program without errors, and `text` is the listing of its run. The run takes all
+-- answers: none remains. Each solve has an answer of the linear program that its model means at
+-- that moment, with the certificate that proves it (`answered`). What each answer says of plans,
+-- that is, of values for the variables, is true (`says_so`). With Done every statement was
+-- executed, with Execution an execution error stopped the run. The listing is the text of the
+-- events of the run, which echoes the source from line 1.
 pub record IsRunListing (status : Status) (solving : Solving) (source text : List ℕ) : Type 0 where
   pub program : Program Frac
   pub is_program : IsProgram frac_limit source frac_value program
@@ -66,7 +68,8 @@ pub record IsRunListing (status : Status) (solving : Solving) (source text : Lis
   pub ends : HaltsSo status (run_of program solving).halted
   pub listing : text ≡ run_listing program.names program.labels frac_limit 1 source (numbers_of solving.answers) (all_events (run_of program solving)) (status_code status)
 
--- the listing of a source for a run that ends with a status; the other statuses have none
+-- the text is the listing of the source, for a run that ends with this status; with the last three
+-- statuses there is no such text
 abbrev pub IsListingOf : Status → Solving → List ℕ → List ℕ → Type 0
 IsListingOf Done solving source text = IsRunListing Done solving source text
 IsListingOf Execution solving source text = IsRunListing Execution solving source text
@@ -76,8 +79,8 @@ IsListingOf Usage solving source text = ⊥
 IsListingOf ReadFault solving source text = ⊥
 IsListingOf WriteFault solving source text = ⊥
 
--- whether a run with this status writes a whole listing; after a write fault the output may hold a
--- part of one
+-- whether a run with this status writes the whole listing; after a write fault the output may have
+-- a prefix of it
 abbrev pub HasListing : Status → Type 0
 HasListing Done = Unit {0}
 HasListing Compile = Unit {0}
@@ -88,13 +91,14 @@ HasListing WriteFault = ⊥
 
 -- ---- the headline
 
--- the request for a FILE alone, whose listing goes to an output of this name
+-- the request for a FILE alone, whose listing goes to the output of this name
 abbrev pub file_alone : List ℕ → List ℕ → Asked
 file_alone file output = record { source = in_file file; output = output; save = None; ranges = false }
 
--- The whole listing of the source in a file is written to the output, and the output is closed.
--- Then the closing line is printed: the status, how many answers there are, and the name of the
--- output. Nothing else is done outside but that the file is read.
+-- A run changes what is outside from `old` to `new` so: the whole listing of the source in a file
+-- is written to the output, and the output is closed. Then the closing line is printed: the status,
+-- how many answers there are, and the name of the output. Nothing else is changed outside, except
+-- that the file is read.
 pub record WritesListing (status : Status) (solving : Solving) (old new : Outside) (file output : List ℕ) : Type 0 where
   pub source : List ℕ
   pub is_source : IsFileOf old file source

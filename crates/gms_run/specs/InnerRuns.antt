@@ -38,10 +38,11 @@ abbrev pub between : Solvers → Run → Between
 between solvers run =
     record { state = run.progress.store; answers = run.progress.answers.items; programs = run.solved.items; solvers = solvers }
 
--- A statement of a program was executed and listed; the solvers are given before it and after it.
-abbrev pub ListsStatement : Bool → Program Frac → Stmt Frac → Solvers → Run → Solvers → Run → Type 0
-ListsStatement continues program s before old after new =
-    IsListed continues (of_statement frac_value frac_limit (record { program = program; solvers = before.names }) s []) program before.rules (between before old) (between after new) old.outlet.listing new.outlet.listing
+-- A statement of a program was executed and listed, and the programs of its solves were kept, if
+-- requested; the solvers are given before it and after it.
+abbrev pub ListsStatement : Bool → Bool → Program Frac → Stmt Frac → Solvers → Run → Solvers → Run → Type 0
+ListsStatement keep continues program s before old after new =
+    IsListed keep continues (of_statement frac_value frac_limit (record { program = program; solvers = before.names }) s []) program before.rules (between before old) (between after new) old.outlet.listing new.outlet.listing
 
 -- ---- moments
 
@@ -62,9 +63,9 @@ abbrev pub solved_between : Moment → Moment → Solving
 solved_between old new = record { before = old.solvers; after = new.solvers; answers = new.run.progress.answers.items }
 
 -- The statements of a program to run were executed after the pending text: to their end, or up to
--- a statement whose listing was not written.
-abbrev pub ExecutesProgram : Result Status Failed → ProgramToRun → Moment → Moment → Type 0
-ExecutesProgram result to_run old new =
+-- a statement whose listing was not written. The programs of its solves were kept, if requested.
+abbrev pub ExecutesProgram : Bool → Result Status Failed → ProgramToRun → Moment → Moment → Type 0
+ExecutesProgram keep result to_run old new =
     ResultsIn result
-    (λ status. EndsAfter status to_run (solved_between old new) new.run.progress.store new.run.solved.items old.host.outside new.host.outside (pending old.run) (pending new.run))
+    (λ status. EndsAfter keep status to_run (solved_between old new) new.run.progress.store new.run.solved.items old.host.outside new.host.outside (pending old.run) (pending new.run))
     (BreaksAfter to_run (solved_between old new) old.host.outside new.host.outside (pending old.run))

@@ -54,6 +54,11 @@ programs_in [] = []
 programs_in (own.Solve line model equations lp answer solver settings level ∷ events) = lp ∷ programs_in events
 programs_in (other ∷ events) = programs_in events
 
+-- the programs that are kept: all of them, if requested, and otherwise none
+abbrev pub kept_if : Bool → List (Lp Frac) → List (Lp Frac)
+kept_if true programs = programs
+kept_if false programs = []
+
 -- ---- between statements
 
 -- A run between two statements: its state, its answers, their linear programs, and its solvers.
@@ -76,15 +81,15 @@ Continues false fault = (stop : Fault) × (fault ≡ Some stop)
 -- Statements were executed. They appended events and took answers, and the run reached the state
 -- and the end that these statements lead to with these answers. The text of the events, and of the
 -- fault that stopped them, is appended to the text before. Each solve is answered, its program is
--- appended to those that are kept, and the pivots of its answer are appended to the paths of its
--- solver.
-pub record IsListed (continues : Bool) (does : Course → Course) (program : Program Frac) (rules : List SolverRule) (old new : Between) (before after : List ℕ) : Type 0 where
+-- appended to those that are kept, if requested, and the pivots of its answer are appended to
+-- the paths of its solver.
+pub record IsListed (keep continues : Bool) (does : Course → Course) (program : Program Frac) (rules : List SolverRule) (old new : Between) (before after : List ℕ) : Type 0 where
   pub shown : List (OwnEvent Frac)
   pub fault : Option Fault
   pub end : Continues continues fault
   pub fresh : List (Answer Frac)
   pub answers : new.answers ≡ old.answers ++ fresh
-  pub programs : new.programs ≡ old.programs ++ programs_in shown
+  pub programs : new.programs ≡ old.programs ++ kept_if keep (programs_in shown)
   pub valid : All (IsValidEvent frac_value frac_limit rules new.answers) shown
   pub extended : HavePathsExtended old.solvers new.solvers new.answers (events_in frac_value shown)
   pub comes : (events : List Event) (more : List (Answer Number)) →
@@ -97,17 +102,18 @@ pub record IsListed (continues : Bool) (does : Course → Course) (program : Pro
 abbrev pub work : Program Frac → State → List (Stmt Frac) → ProgramToRun
 work program state statements = record { program = program; state = state; statements = statements; source = []; file = []; line = 0 }
 
--- A program ended with this status, in this state, and the programs of its solves were kept.
-pub record Ends (status : Status) (to_run : ProgramToRun) (solving : Solving) (last : State) (programs : List (Lp Frac)) : Type 0 where
+-- A program ended with this status, in this state, and the programs of its solves were kept, if
+-- requested.
+pub record Ends (keep : Bool) (status : Status) (to_run : ProgramToRun) (solving : Solving) (last : State) (programs : List (Lp Frac)) : Type 0 where
   pub solved : IsRunSolved to_run solving
   pub halts : HaltsSo status (course_of to_run solving).halted
   pub comes : (course_of to_run solving).state ≡ last
-  pub kept : KeepsPrograms solving.before.rules solving.answers programs (course_of to_run solving).events
+  pub kept : keep ≡ true → KeepsPrograms solving.before.rules solving.answers programs (course_of to_run solving).events
 
 -- The statements ended. Their text follows the text `expected`, and all of it is written except for
 -- what is pending.
-pub record EndsAfter (status : Status) (to_run : ProgramToRun) (solving : Solving) (last : State) (programs : List (Lp Frac)) (old new : Outside) (expected pending : List ℕ) : Type 0 where
-  pub ends : Ends status to_run solving last programs
+pub record EndsAfter (keep : Bool) (status : Status) (to_run : ProgramToRun) (solving : Solving) (last : State) (programs : List (Lp Frac)) (old new : Outside) (expected pending : List ℕ) : Type 0 where
+  pub ends : Ends keep status to_run solving last programs
   pub passes : Passes old new (expected ++ shown_by to_run solving) pending
   pub within_bound : length pending ≤ 4096
 

@@ -12,34 +12,37 @@ use Rattle.gms_run.specs.Scripts.{RunInput, LoadedInput, IsLoadedInput, first_li
 use Rattle.gms_run.specs.ProgramsToRun.{ProgramToRun, course_of, first_of, HasRightAnswers}
 use Rattle.gms_run.specs.Listings.{IsExecuted, IsProgramToRun, IsListing, SavesLast}
 
--- a program to run with other statements
+-- a program to run, with these statements in place of those that it has
 abbrev pub with_statements : ProgramToRun → List (Stmt Frac) → ProgramToRun
 with_statements to_run statements = record to_run { statements = statements }
 
--- the run of further statements from the state that a run has reached
+-- the run of further statements, which are in no loop, from the state that the run `course` has
+-- reached
 abbrev pub run_on : ProgramToRun → Solving → Course → List (Stmt Frac) → Course
 run_on to_run solving course statements =
     in_sequence (map (of_statement frac_value frac_limit (record { program = to_run.program; solvers = solving.before.names })) statements) [] course
 
--- the run of statements followed by others is the run of the others from where the first end
+-- the law that the run of the statements `first` followed by `others` is the run of `others` from
+-- where the run of `first` ends
 abbrev pub RunsJoin : Type 0
 RunsJoin = (to_run : ProgramToRun) (solving : Solving) (first others : List (Stmt Frac)) →
     course_of (with_statements to_run (first ++ others)) solving ≡ run_on to_run solving (course_of (with_statements to_run first) solving) others
 
 -- ---- answers
 
--- Where a run with these solvers and answers, from its start or from a save, executed what was
--- requested, each answer is right.
+-- If a run with these solvers and answers, from its start or from a save, executed the input, then
+-- each of its answers is right.
 abbrev pub RunIsAnsweredRightly : Solving → Type 0
 RunIsAnsweredRightly solving = (taken : RunInput) (loaded_input : LoadedInput) (text : List ℕ) → IsLoadedInput solving.before.names taken loaded_input → (run : IsExecuted solving loaded_input text) → HasRightAnswers run.to_run solving
 
--- what each run executed is answered rightly
+-- the law that each answer of each run that executed its input is right
 abbrev pub RunsAreAnsweredRightly : Type 0
 RunsAreAnsweredRightly = (solving : Solving) → RunIsAnsweredRightly solving
 
 -- ---- restarts
 
--- A run of a source was done and saved, and a file was run from its save, with the same solvers.
+-- The run `first` of a source was done and saved, and the run `second` resumed from its save with a
+-- file, with the same solvers.
 pub record IsRestart (first second : Solving) (source file : List ℕ) : Type 0 where
   pub base : LoadedInput
   pub starts : IsLoadedInput first.before.names (from_start source) base
@@ -53,27 +56,27 @@ pub record IsRestart (first second : Solving) (source file : List ℕ) : Type 0 
   pub run : IsExecuted second loaded_input listing
   pub same_solvers : second.before.names ≡ first.before.names
 
--- One long run of the joint source, with the answers of both runs and the same solvers, is the run
--- of this program.
+-- `long` is one run of the joint source of `source` and `file`, with the answers of both runs and
+-- the same solvers; `to_run` is the program that it runs.
 pub record IsLongRun (first second long : Solving) (source file : List ℕ) (to_run : ProgramToRun) : Type 0 where
   pub is_to_run : IsProgramToRun long.before.names (scripted (script_of (joint_source source file))) to_run
   pub same_solvers : long.before.names ≡ first.before.names
   pub answers : long.answers ≡ first.answers ++ second.answers
 
--- the run of the saved source's statements in the long run
+-- the part of the long run that executes the statements of the saved source
 abbrev pub base_course : List ℕ → ProgramToRun → Solving → Course
 base_course source to_run long = course_of (first_of (length (saved_statements (first_line source) to_run.program)) to_run) long
 
 -- The long run is that of the saved source's statements, which take the answers of the saved run,
--- followed by the restarted run. The restarted run keeps what the long run keeps, so restarts may
--- follow one another.
+-- followed by the restarted run. Each save of the restarted run is one of the long run, so restarts
+-- may follow one another.
 pub record SaysBoth (first second long : Solving) (source file : List ℕ) (restart : IsRestart first second source file) (to_run : ProgramToRun) : Type 0 where
   pub is : course_of to_run long ≡ run_after (base_course source to_run long) (course_of restart.run.to_run second)
   pub taken : (base_course source to_run long).taken ≡ length first.answers
   pub keeps : (bytes : List ℕ) → SavesLast second restart.loaded_input bytes → SavesLast long (scripted (script_of (joint_source source file))) bytes
 
--- Each restart says the same as one long run, if the long run executes the saved source's
--- statements to their end.
+-- the law that each restart says the same as one long run, if the long run executes the saved
+-- source's statements to their end
 abbrev pub RestartsSayTheSame : Type 0
 RestartsSayTheSame = (first second long : Solving) (source file : List ℕ) (restart : IsRestart first second source file) (to_run : ProgramToRun) →
     IsLongRun first second long source file to_run → (base_course source to_run long).halted ≡ None → SaysBoth first second long source file restart to_run

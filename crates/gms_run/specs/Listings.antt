@@ -1,4 +1,4 @@
--- What the loaded input is to solvers of some names: refused, or a program to run; its listing, and
+-- Whether a run with solvers of given names executes or refuses the loaded input; its listing, and
 -- its save.
 use Rattle.std.specs.Prelude.{◌≡◌, ◌≢◌, ℕ, pos, ◌⊎◌, Bool, true, false, ◌++◌, length, List, [], map, sum, codes, option_map, unwrap_or, Option, Some, None, IfSome}
 use Rattle.std.specs.List.{range_with_len}
@@ -28,12 +28,13 @@ use Rattle.gms_run.specs.ProgramsToRun.{ProgramToRun, program_to_run, course_of,
 
 -- ---- what is accepted
 
--- The source of a script is a program that has no error.
+-- The source of the script is this program, which has no error, with solvers of these names.
 pub record IsAcceptedScript (solvers : List (List ℕ)) (script : Script) (program : Program Frac) : Type 0 where
   pub is_program : IsProgram frac_limit script.source frac_value program
   pub no_error : errors_of_script script.saved script.line program solvers ≡ []
 
--- The program that is run of the loaded input, where it is accepted.
+-- The loaded input is an accepted script, with solvers of these names, and `to_run` is what is run
+-- of it.
 pub record IsProgramToRun (solvers : List (List ℕ)) (loaded_input : LoadedInput) (to_run : ProgramToRun) : Type 0 where
   pub script : Script
   pub of_script : loaded_input ≡ scripted script
@@ -42,19 +43,21 @@ pub record IsProgramToRun (solvers : List (List ℕ)) (loaded_input : LoadedInpu
 
 -- ---- what is refused
 
--- what is listed of a script whose source is no program
+-- the text that is listed of a script whose source is no program: the echo of the file, which is
+-- left out if the fault is that the source is too long, and the fault
 abbrev pub refusal_text : Script → SourceFault → List ℕ
 refusal_text script fault = refused_echo fault.error script.line script.file ++ source_error_text fault
 
--- what is listed of a script whose program has errors
+-- the text that is listed of a script whose program has errors: the echo of the file, and the
+-- errors
 abbrev pub errors_text : Script → List CompileError → List ℕ
 errors_text script errors = echo_text script.line script.file ++ compile_errors_text errors
 
--- what is listed of a save that cannot be restored
+-- the text that is listed of a save that cannot be restored: its fault, at line 1 and column 1
 abbrev pub unrestored_text : SaveFault → List ℕ
 unrestored_text fault = save_error_text (save_fault_code fault) (fault_name fault) (record { line = 1; column = 1 })
 
--- a listing without a run: what is listed, and the last line with status 2
+-- a listing without a run: the listed text, and the last line with status 2 and no solves
 abbrev pub refused_text : List ℕ → List ℕ
 refused_text listed = listed ++ end_text 2 0
 
@@ -64,14 +67,14 @@ pub record ShowsRefusal (script : Script) (text : List ℕ) : Type 0 where
   pub refused : IsSourceFault frac_limit script.source fault
   pub listing : text ≡ refused_listing script.line script.file fault
 
--- The source is a program with errors, and the text is the listing that has them.
+-- The source is a program with errors, and the text is the listing of all of them.
 pub record ShowsErrors (solvers : List (List ℕ)) (script : Script) (text : List ℕ) : Type 0 where
   pub program : Program Frac
   pub is_program : IsProgram frac_limit script.source frac_value program
   pub some : errors_of_script script.saved script.line program solvers ≢ []
   pub listing : text ≡ errors_listing script.line script.file (errors_of_script script.saved script.line program solvers)
 
--- the text is the listing that says why nothing can be run
+-- the text is the listing that says why the loaded input is not run
 abbrev pub ShowsWhy : List (List ℕ) → LoadedInput → List ℕ → Type 0
 ShowsWhy solvers (scripted script) text = ShowsRefusal script text ⊎ ShowsErrors solvers script text
 ShowsWhy solvers (unrestored fault) text = text ≡ refused_text (unrestored_text fault)
@@ -90,12 +93,12 @@ pub record IsExecuted (solving : Solving) (loaded_input : LoadedInput) (text : L
   pub solved : IsRunSolved to_run solving
   pub listing : text ≡ program_listing to_run solving
 
--- the program halted so that the run ends with this status
+-- the run of the program halts as a run with this status does
 abbrev pub EndsSo : (status : Status) (solving : Solving) (loaded_input : LoadedInput) (text : List ℕ) → IsExecuted solving loaded_input text → Type 0
 EndsSo status solving loaded_input text run = HaltsSo status (course_of run.to_run solving).halted
 
--- the text is the listing of the loaded input for a run that ends with this status; the other
--- statuses have none
+-- the text is the listing of the loaded input, for a run that ends with this status; with the last
+-- three statuses there is no such text
 abbrev pub IsListing : Status → Solving → LoadedInput → List ℕ → Type 0
 IsListing Compile solving loaded_input text = IsRefusalListing solving loaded_input text
 IsListing Done solving loaded_input text = (run : IsExecuted solving loaded_input text) × EndsSo Done solving loaded_input text run
@@ -104,17 +107,17 @@ IsListing Usage solving loaded_input text = ⊥
 IsListing ReadFault solving loaded_input text = ⊥
 IsListing WriteFault solving loaded_input text = ⊥
 
--- The text is the expected listing of the loaded input, and exactly `written` bytes of it were
--- written.
+-- The text is the expected listing of the loaded input, of which `written` bytes were written: the
+-- listing of a refusal, or that of a run which is cut off after these bytes.
 abbrev pub IsWrittenPrefix : Solving → LoadedInput → List ℕ → ℕ → Type 0
 IsWrittenPrefix solving loaded_input text written =
     IsRefusalListing solving loaded_input text ⊎ ((run : IsExecuted solving loaded_input text) × IsCutOff run.to_run solving written)
 
 -- ---- saves
 
--- The bytes are the save of the last state of the run: a save of this state by the definition of
--- saves. The solver that it names has the place that the state's settings have, so that `restore`
--- with the same solvers gives this state back.
+-- The bytes are the save of the last state of the run, by the definition of saves. The solver that
+-- the save names has the position that the state's settings have, so that `restore` with the same
+-- solvers gives this state back.
 pub record SavesLast (solving : Solving) (loaded_input : LoadedInput) (bytes : List ℕ) : Type 0 where
   pub to_run : ProgramToRun
   pub is_to_run : IsProgramToRun solving.before.names loaded_input to_run
@@ -122,80 +125,84 @@ pub record SavesLast (solving : Solving) (loaded_input : LoadedInput) (bytes : L
   pub is_save : IsSaveOf bytes to_run.source to_run.program (course_of to_run solving).state (solver_name solving.before.names (course_of to_run solving).state)
   pub placed : place_of_solver solving.before.names (solver_name solving.before.names (course_of to_run solving).state) ≡ Some (course_of to_run solving).state.settings.solver
 
--- the file for the last state of a run that ends so, if it is saved: every statement was executed,
--- and the request names a file
+-- the name of the file for the save of a run that ends with this status: that of the request after
+-- Done, and else None
 abbrev pub save_file : Status → Asked → Option (List ℕ)
 save_file Done request = request.save
 save_file status request = None
 
--- if the run has a file for its save, the bytes are the save of the last state
+-- if a run with this status has a file for its save, then the bytes are the save of its last state
 abbrev pub SavesSo : Status → Solving → Asked → LoadedInput → List ℕ → Type 0
 SavesSo status solving request loaded_input bytes = IfSome (save_file status request) (λ file. SavesLast solving loaded_input bytes)
 
 -- ---- the closing lines
 
--- the status of the model `t` in a state; 0 without such a name
+-- the number of the model status of the model `t` in a state; 0 if the program has no such name
 abbrev pub model_status : Program Frac → State → ℕ
 model_status program state = unwrap_or (option_map (λ model. (statuses_in (symbol_of state model).content).0) (place_of program.names (codes "t"))) 0
 
--- the level of the variable `z` in a state; 0 without such a name
+-- the level of the variable `z` in a state; 0 if the program has no such name
 abbrev pub objective_level : Program Frac → State → Number
 objective_level program state = unwrap_or (option_map (λ variable. (attributes_of state variable []).level) (place_of program.names (codes "z"))) (whole (pos 0))
 
--- how many pivots all answers have
+-- how many pivots all answers have together
 abbrev pub pivots_of : List (Answer Frac) → ℕ
 pivots_of answers = sum (map (λ answer. length answer.pivots) answers)
 
--- A line on the run of a generated model of a size: the status of its model, the level of its
--- objective with three decimals in the last state, and the number of pivots of its answers.
+-- The line is that of a generated model with this size: it has the status of the model, the level
+-- of the objective with three decimals in the last state, and the number of pivots of all answers.
 pub record IsModelLine (size : ℕ) (program : Program Frac) (last : State) (answers : List (Answer Frac)) (line : List ℕ) : Type 0 where
   pub objective : List ℕ
   pub rounded : IsRoundedText 3 (objective_level program last) objective
   pub text : line ≡ generated_line size (model_status program last) objective (pivots_of answers)
 
--- The line on the run of a program.
+-- The line is what is printed of a generated model with this size after the run of the loaded
+-- input: the status of the model, the level of its objective, and the number of pivots.
 pub record TellsModel (solving : Solving) (size : ℕ) (loaded_input : LoadedInput) (line : List ℕ) : Type 0 where
   pub to_run : ProgramToRun
   pub is_to_run : IsProgramToRun solving.before.names loaded_input to_run
   pub told : IsModelLine size to_run.program (course_of to_run solving).state solving.answers line
 
--- what is printed of a generated model: the line on its run, if it was run
+-- what is printed of a generated model with this size after a run with this status: with Done and
+-- Execution one line, and else nothing
 abbrev pub TellsSize : Status → Solving → ℕ → LoadedInput → List ℕ → Type 0
 TellsSize Done solving size loaded_input line = TellsModel solving size loaded_input line
 TellsSize Execution solving size loaded_input line = TellsModel solving size loaded_input line
 TellsSize _ solving size loaded_input line = line ≡ []
 
--- what is printed of a run before the closing line: nothing, except for a generated model
+-- what is printed of the model before the closing line: a line for a generated model that was run,
+-- and else nothing
 abbrev pub TellsRun : Status → Solving → Origin → LoadedInput → List ℕ → Type 0
 TellsRun status solving (in_file file) loaded_input line = line ≡ []
 TellsRun status solving (restarted saved file) loaded_input line = line ≡ []
 TellsRun status solving (generated size) loaded_input line = TellsSize status solving size loaded_input line
 
--- the solves that the run of a program shows with these answers, in order
+-- the solves among the events of the run of a program with these answers, in order
 abbrev pub solves_of : ProgramToRun → Solving → List Solved
 solves_of to_run solving = solves_in (course_of to_run solving).events
 
--- The solves take the answers in order, one each. The text says, from their linear programs and
--- these answers, how far each right side and each cost of each optimum may move.
+-- The solves of the run take the answers in order, one each. The text says, from their linear
+-- programs and these answers, how far each right side and each cost of each optimum may move.
 pub record TellsSpans (solving : Solving) (loaded_input : LoadedInput) (text : List ℕ) : Type 0 where
   pub to_run : ProgramToRun
   pub is_to_run : IsProgramToRun solving.before.names loaded_input to_run
   pub in_order : places_of (solves_of to_run solving) ≡ range_with_len 0 (length solving.answers)
   pub said : SaysRanges to_run.program.names to_run.program.labels frac_limit 1 (programs_of (solves_of to_run solving)) (numbers_of solving.answers) text
 
--- what is printed of ranges for an input that was run; for any other, nothing
+-- the text printed with `--ranges`: the ranges of the solves of a run with this status; empty if
+-- nothing was run
 abbrev pub TellsRangesOf : Status → Solving → LoadedInput → List ℕ → Type 0
 TellsRangesOf Done solving loaded_input text = TellsSpans solving loaded_input text
 TellsRangesOf Execution solving loaded_input text = TellsSpans solving loaded_input text
 TellsRangesOf _ solving loaded_input text = text ≡ []
 
--- what is printed of ranges, if they are requested
+-- the text printed of ranges: empty if they are not requested
 abbrev pub TellsRanges : Bool → Status → Solving → LoadedInput → List ℕ → Type 0
 TellsRanges true status solving loaded_input text = TellsRangesOf status solving loaded_input text
 TellsRanges false status solving loaded_input text = text ≡ []
 
--- the remarks on a run, which are printed before the closing line: its ranges, and a line on a
--- generated model
+-- the remarks on a run, which are printed before the closing line: the ranges of its solves, if
+-- they are requested, and a line on a generated model
 abbrev pub AreRemarks : Status → Solving → Asked → LoadedInput → List ℕ → Type 0
 AreRemarks status solving request loaded_input remarks =
     (ranges line : List ℕ) × TellsRanges request.ranges status solving loaded_input ranges × TellsRun status solving request.source loaded_input line × (remarks ≡ ranges ++ line)

@@ -1,4 +1,4 @@
--- A program to run, how far its run goes with the solvers' answers, and the text of that.
+-- Programs to run, the course of a run with the solvers' answers, and the text of a run.
 use Rattle.std.specs.Prelude.{◌≡◌, ℕ, ◌+◌, ◌≤◌, ◌⊎◌, List, [], ◌++◌, length, take, Option, Some, None}
 use Rattle.gq_frac.specs.declared.frac.Frac.{Frac}
 use Rattle.gq_frac.specs.Frac.{frac_value, frac_limit}
@@ -19,7 +19,7 @@ use Rattle.gms_run.specs.Scripts.{Script, first_state, statements_to_run}
 use Rattle.gms_run.specs.Solving.{Solving, HavePathsExtended, SolvesNothing, numbers_of}
 
 -- What is run: statements of a program, from a state. `source` is the source of the program; the
--- lines of `file` are echoed, and `line` is the number of the first.
+-- lines of `file` are echoed, and `line` is the number of the first of them.
 pub record ProgramToRun : Type 0 where
   pub program : Program Frac
   pub state : State
@@ -28,18 +28,18 @@ pub record ProgramToRun : Type 0 where
   pub file : List ℕ
   pub line : ℕ
 
--- what is run of a script with this program
+-- the program to run of a script whose source is this program
 abbrev pub program_to_run : Script → Program Frac → ProgramToRun
 program_to_run script program =
     record { program = program; state = first_state script.saved program; statements = statements_to_run script.saved script.line program; source = script.source; file = script.file; line = script.line }
 
--- the first statements alone
+-- a program to run, with its first n statements alone
 abbrev pub first_of : ℕ → ProgramToRun → ProgramToRun
 first_of n to_run = record to_run { statements = take n to_run.statements }
 
 -- ---- the run
 
--- the run of a program with these answers
+-- the run of a program with the answers of these solvers
 abbrev pub course_of : ProgramToRun → Solving → Course
 course_of to_run solving =
     run_from frac_value frac_limit (record { program = to_run.program; solvers = solving.before.names }) to_run.state (numbers_of solving.answers) to_run.statements
@@ -54,12 +54,12 @@ pub record IsRunSolved (to_run : ProgramToRun) (solving : Solving) : Type 0 wher
   pub extended : HavePathsExtended solving.before solving.after solving.answers (course_of to_run solving).events
 
 -- each answer of the run is right: what it says is true of the model as it is written, with the
--- data at the moment of its solve
+-- data at the moment of the solve
 abbrev pub HasRightAnswers : ProgramToRun → Solving → Type 0
 HasRightAnswers to_run solving =
     AnswersAreSo frac_value frac_limit (record { program = to_run.program; solvers = solving.before.names }) to_run.state to_run.statements solving.answers
 
--- the number of a status
+-- the number of a status, which is the exit status
 abbrev pub status_code : Status → ℕ
 status_code Done = 0
 status_code Usage = 1
@@ -68,7 +68,8 @@ status_code Execution = 3
 status_code ReadFault = 4
 status_code WriteFault = 5
 
--- how the run of a program halts that ends with a status: it is done, or a fault stops it
+-- how a run that ends with this status halts: with Done not at all, with Execution by a fault; with
+-- any other status there is no such run
 abbrev pub HaltsSo : Status → Option Halt → Type 0
 HaltsSo Done halted = halted ≡ None
 HaltsSo Execution halted = (fault : Fault) × (halted ≡ Some (stopped fault))
@@ -76,49 +77,51 @@ HaltsSo _ halted = ⊥
 
 -- ---- the text of a run
 
--- the last line, by how the run halts: one that waits for an answer has none
+-- the last line of a listing, by how the run halts and how many solves it has; empty for a run that
+-- waits for an answer
 abbrev pub last_line : Option Halt → ℕ → List ℕ
 last_line None solves = end_text 0 solves
 last_line (Some (stopped fault)) solves = end_text 3 solves
 last_line (Some waiting) solves = []
 
--- what the statements show, and the fault that stops them, as far as the answers go
+-- the text of what the statements show, and of the fault that stops them, as far as the answers
+-- suffice
 abbrev pub shown_by : ProgramToRun → Solving → List ℕ
 shown_by to_run solving =
     events_text to_run.program.names to_run.program.labels frac_limit (numbers_of solving.answers) (all_events (course_of to_run solving))
 
--- the echo of the file, and what the statements show
+-- the echo of the file, and what the statements show: the listing without its last line
 abbrev pub body_of : ProgramToRun → Solving → List ℕ
 body_of to_run solving = echo_text to_run.line to_run.file ++ shown_by to_run solving
 
--- the listing of a program as far as the answers go: the echo, what the statements show, and the
--- last line
+-- the listing of a program as far as the answers suffice: the echo, what the statements show, and
+-- the last line
 abbrev pub program_listing : ProgramToRun → Solving → List ℕ
 program_listing to_run solving = body_of to_run solving ++ last_line (course_of to_run solving).halted (length solving.answers)
 
 -- ---- the save of a run
 
--- the save of the last state of a run, with its source
+-- the save of the last state of a run, with its source and the name of its solver
 abbrev pub save_text : ProgramToRun → Solving → List ℕ
 save_text to_run solving =
     saved_text to_run.source to_run.program.names (course_of to_run solving).state (solver_name solving.before.names (course_of to_run solving).state)
 
 -- ---- where it is cut off
 
--- how many bytes of a listing a run holds back, at most, before it writes them
+-- how many bytes of a listing may wait in memory before they are written
 abbrev pub most_held : ℕ
 most_held = 4096
 
--- `written` bytes of the listing were written, and at most one statement was executed beyond them.
--- That statement and those before it take all answers. The listing up to those before it is
--- written, except for the last 4,096 bytes.
+-- After a write fault `written` bytes of the listing are written. For some number `before`, the
+-- first `before + 1` statements take all answers, and of the listing of the first `before` at most
+-- the last 4,096 bytes are not written.
 pub record IsWrittenUpTo (to_run : ProgramToRun) (solving : Solving) (written : ℕ) : Type 0 where
-  -- how many statements are before it
+  -- how many statements are before the last executed one
   pub before : ℕ
   pub taken : (course_of (first_of (before + 1) to_run) solving).left ≡ []
   pub held : length (body_of (first_of before to_run) solving) ≤ written + most_held
 
--- only `written` bytes of a program's listing were written: nothing was solved, or statements were
--- executed up to one
+-- only `written` bytes of a program's listing were written: nothing was solved, or at most one
+-- statement was executed beyond those whose listing is written except for its last 4,096 bytes
 abbrev pub IsCutOff : ProgramToRun → Solving → ℕ → Type 0
 IsCutOff to_run solving written = SolvesNothing solving ⊎ IsWrittenUpTo to_run solving written

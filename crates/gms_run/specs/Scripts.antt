@@ -1,4 +1,4 @@
--- What there is to run: a source from its start, or a file that resumes from a saved state (GAMS
+-- The inputs of a run: a source from its start, or a file that resumes from a saved state (GAMS
 -- User's Guide, "Save and Restart").
 use Rattle.std.specs.Prelude.{◌≡◌, ℕ, ◌≤◌, List, length, drop, Option, Some, None, Result, Ok, Err}
 use Rattle.gq_frac.specs.declared.frac.Frac.{Frac}
@@ -18,36 +18,38 @@ use Rattle.gms_save.specs.JointErrors.{joint_errors, resumed, saved_statements}
 use Rattle.gms_save.specs.Saves.{most_save_bytes, GivesBack, IsRestored, Restores}
 
 -- A source to run: a file alone, or a joint source, which is a saved source followed by the file.
--- The lines of the file are echoed, and `line` is the number of the first.
+-- The lines of the file are echoed, and `line` is the number of the first of them in the source.
 pub record Script : Type 0 where
   pub source : List ℕ
   pub file : List ℕ
   pub line : ℕ
-  -- the saved state from which it resumes
+  -- the saved state from which the run resumes; None for a run from its start
   pub saved : Option State
 
--- the loaded input: a script, or the fault of a save that cannot be restored
+-- what loading the input gives: a script, or the fault of a save that cannot be restored
 pub data LoadedInput : Type 0 where
   scripted : Script → LoadedInput
   unrestored : SaveFault → LoadedInput
 
--- the input: a source that is run from its start, or a save and a file that resumes from it
+-- the input of a run: a source that is run from its start, or a save and a file that resumes from
+-- it
 pub data RunInput : Type 0 where
   from_start : List ℕ → RunInput
   from_save : List ℕ → List ℕ → RunInput
 
 -- ---- scripts
 
--- a source that is run from its start
+-- the script of a source that is run from its start
 abbrev pub script_of : List ℕ → Script
 script_of source = record { source = source; file = source; line = 1; saved = None }
 
--- a file that resumes from a saved state, after the saved source
+-- the script of a file that resumes from a saved state, after the saved source
 abbrev pub joint_script : List ℕ → State → List ℕ → Script
 joint_script saved state file =
     record { source = joint_source saved file; file = file; line = first_line saved; saved = Some state }
 
--- The script is that of a file after the source that was restored from a save.
+-- The script is that of the file after the source that was restored from the save, with solvers of
+-- these names.
 pub record IsJoint (solvers : List (List ℕ)) (save file : List ℕ) (script : Script) : Type 0 where
   pub saved : Saved
   pub short : length save ≤ most_save_bytes
@@ -56,13 +58,14 @@ pub record IsJoint (solvers : List (List ℕ)) (save file : List ℕ) (script : 
   pub back : GivesBack solvers save (let r : Result Saved SaveFaultOrMemory = Ok saved in r)
   pub joint : script ≡ joint_script saved.source.items saved.store file
 
--- A save is not restored, because of a fault: which bytes have that fault, and that no state has
--- this save.
+-- The save cannot be restored, with solvers of these names: it has this fault, and it is the save
+-- of no state.
 pub record IsUnrestored (solvers : List (List ℕ)) (save : List ℕ) (fault : SaveFault) : Type 0 where
   pub answer : Restores solvers save (let r : Result Saved SaveFaultOrMemory = Err (Fault fault) in r)
   pub back : GivesBack solvers save (let r : Result Saved SaveFaultOrMemory = Err (Fault fault) in r)
 
--- the loaded input, with solvers of these names
+-- what loading the input gives, with solvers of these names: the script of a source, or after a
+-- save its joint script or its fault
 abbrev pub IsLoadedInput : List (List ℕ) → RunInput → LoadedInput → Type 0
 IsLoadedInput solvers (from_start source) (scripted script) = script ≡ script_of source
 IsLoadedInput solvers (from_start source) (unrestored fault) = ⊥
@@ -71,17 +74,20 @@ IsLoadedInput solvers (from_save save file) (unrestored fault) = IsUnrestored so
 
 -- ---- programs of scripts
 
--- the errors of a program; in a restarted run, only those of the file, which begins at this line
+-- the errors of a program; in a restarted run, only those of the file, which begins at the line
+-- `line`
 abbrev pub errors_of_script : Option State → ℕ → Program Frac → List (List ℕ) → List CompileError
 errors_of_script None line program solvers = compile_errors frac_value program solvers
 errors_of_script (Some state) line program solvers = joint_errors frac_value program line solvers
 
--- the state in which a program begins: loaded, or resumed
+-- the state in which a program begins: that of its declarations, or in a restarted run the saved
+-- one resumed
 abbrev pub first_state : Option State → Program Frac → State
 first_state None program = loaded frac_value program
 first_state (Some state) program = resumed frac_value state program
 
--- the statements that are run: all, or those after the saved source
+-- the statements that are run: all, or in a restarted run those after the saved source, which ends
+-- before the line `line`
 abbrev pub statements_to_run : Option State → ℕ → Program Frac → List (Stmt Frac)
 statements_to_run None line program = program.statements.items
 statements_to_run (Some state) line program = drop (length (saved_statements line program)) program.statements.items

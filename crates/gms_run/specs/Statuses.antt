@@ -24,20 +24,20 @@ use Rattle.gms_run.specs.Listings.{IsProgramToRun, IsListing, IsWrittenPrefix, A
 
 -- ---- the input
 
--- the bytes of the file of a name; of a host that hides its files, any bytes
+-- the file of this name has these bytes, if the host exposes its files; else they may be any bytes
 abbrev pub IsFileOf : Outside → List ℕ → List ℕ → Type 0
 IsFileOf o file bytes = IfSome o.files (λ files. files_map.get files file ≡ Some bytes)
 
--- the input of a request: the bytes of a file, or of a save and a file, or the text of a generated
--- model
+-- the input is that of a request: the bytes of a file, or of a save and a file, or the text of a
+-- generated model
 abbrev pub IsInputOf : Outside → Origin → RunInput → Type 0
 IsInputOf o (in_file file) (from_start source) = IsFileOf o file source
 IsInputOf o (restarted saved file) (from_save save source) = IsFileOf o saved save × IsFileOf o file source
 IsInputOf o (generated size) (from_start source) = source ≡ generated_model_text size size size
 IsInputOf o origin taken = ⊥
 
--- the host's state after a file was read: its name was requested, and at most `most` bytes were
--- taken from the input
+-- the host's state after a file with these bytes was read: its name was requested, the input is
+-- open, and at most the first `most` of the bytes were taken
 abbrev pub with_read : ℕ → Outside → List ℕ → List ℕ → Outside
 with_read most o file bytes =
     record (with_asked o (file ∷ [])) { input = option_map (λ _. drop most bytes) o.input; reading = true }
@@ -50,7 +50,7 @@ with_source_read o file source = with_read (most_source_bytes + 1) o file source
 abbrev pub with_saved : Outside → List ℕ → List ℕ → Outside
 with_saved o file save = with_read (most_save_bytes + 1) o file save
 
--- the host's state after reading the input: a save is read before the file that resumes from it,
+-- the host's state after the input was read: a save is read before the file that resumes from it,
 -- and a generated model is not read
 abbrev pub with_taken : Outside → Origin → RunInput → Outside
 with_taken o (in_file file) (from_start source) = with_source_read o file source
@@ -59,26 +59,26 @@ with_taken o origin taken = o
 
 -- ---- ends without a listing
 
--- A line was printed and nothing else was done; or a prefix of it was printed, and a fault of
--- writing was counted.
+-- From the state `before` of the host, the line was printed and nothing else was done; or a prefix
+-- of it was printed, and a fault of writing was counted.
 pub record SaysLine (old new : Meaning) (before : Outside) (line : List ℕ) : Type 0 where
   pub beginning : PrintsPrefix before new.outside line
   pub whole : (new.outside ≡ with_said before line) ⊎ Rose old.counts.write_faults new.counts.write_faults
 
--- A file could not be read: it was requested or not, and how much of the input was taken is open.
--- Nothing else was done.
+-- The file could not be read: its name was requested or not, and the input may be open or not, with
+-- any bytes. Nothing else was done.
 abbrev pub IsUnread : Outside → Outside → List ℕ → Type 0
 IsUnread old new file =
     (new ≡ record old { input = new.input; reading = new.reading }) ⊎ (new ≡ record (with_asked old (file ∷ [])) { input = new.input; reading = new.reading })
 
--- the named file of a request could not be read; the files before it were read
+-- the file `name` of a request could not be read; the file before it, if there is one, was read
 abbrev pub IsUnreadOf : Outside → Outside → Origin → List ℕ → Type 0
 IsUnreadOf old new (in_file file) name = (name ≡ file) × IsUnread old new file
 IsUnreadOf old new (restarted saved file) name =
     ((name ≡ saved) × IsUnread old new saved) ⊎ ((name ≡ file) × ((save : List ℕ) × (IsFileOf old saved save × IsUnread (with_saved old saved save) new file)))
 IsUnreadOf old new (generated size) name = ⊥
 
--- A file could not be read, and the read fault line was printed.
+-- A file of the request could not be read, and the read fault line was printed.
 pub record IsReadFault (old new : Meaning) (request : Asked) : Type 0 where
   pub file : List ℕ
   pub before : Outside
@@ -87,45 +87,48 @@ pub record IsReadFault (old new : Meaning) (request : Asked) : Type 0 where
 
 -- ---- files that are written
 
--- the output of a name was opened, and has this text so far
+-- the host's state after the output of this name was opened, and this text was written to it
 abbrev pub with_listing : Outside → List ℕ → List ℕ → Outside
 with_listing o output text = with_output (with_opened o output) text
 
--- this was written to the output of a name, which is closed and kept
+-- the host's state after this text was written to the output of this name, which is closed and kept
 abbrev pub with_file : Outside → List ℕ → List ℕ → Outside
 with_file o output text = with_kept (with_listing o output text)
 
--- the output of a name could not be opened: it is empty, and its name was requested or not
+-- the output of this name could not be opened: no output is open, its bytes are empty, and its name
+-- was requested or not
 abbrev pub IsUnopenedFile : Outside → Outside → List ℕ → Type 0
 IsUnopenedFile old new name = (new ≡ with_emptied old false) ⊎ (new ≡ with_asked (with_emptied old false) (name ∷ []))
 
--- A prefix of these bytes was added to the output, and the others are missing.
+-- A prefix of these bytes was added to the output, and nothing else was done.
 pub record AddsPrefix (old new : Outside) (bytes : List ℕ) : Type 0 where
   pub added : List ℕ
   pub missing : List ℕ
   pub split : bytes ≡ added ++ missing
   pub outside : new ≡ with_output old added
 
--- these bytes were not written to the output of a name, or it was not closed well: how far writing
--- got
+-- the output of this name could not be opened, or it has a prefix of these bytes, or it has all of
+-- them and closing it failed
 abbrev pub IsUnwrittenFile : Outside → Outside → List ℕ → List ℕ → Type 0
 IsUnwrittenFile old new name bytes =
     IsUnopenedFile old new name ⊎ (AddsPrefix (with_opened old name) new bytes ⊎ (new ≡ record (with_listing old name bytes) { writing = false }))
 
--- these bytes were written to the file of a name, if there is a name
+-- the host's state after these bytes were written to the file of this name; unchanged without a
+-- name
 abbrev pub with_save : Outside → Option (List ℕ) → List ℕ → Outside
 with_save o None bytes = o
 with_save o (Some name) bytes = with_file o name bytes
 
 -- ---- reports
 
--- the listing was written to the output, which is closed and kept; then the save to its file, if it
--- has a name; and then these lines were printed
+-- the host's state after the listing was written to the output, which is closed and kept, then the
+-- save to its file, if it has a name, and then these lines were printed
 abbrev pub with_report : Outside → List ℕ → List ℕ → Option (List ℕ) → List ℕ → List ℕ → Outside
 with_report o output text name bytes lines = with_said (with_save (with_file o output text) name bytes) lines
 
--- The listing of the loaded input was written to the requested output, which is closed and kept.
--- After that the last state was saved, if it is to be, and then the closing lines were printed.
+-- The run is reported: the listing of the loaded input was written to the requested output, which
+-- is closed and kept. After that the last state was saved, if that is requested and the status is
+-- Done, and then the closing lines were printed.
 pub record IsReported (status : Status) (solving : Solving) (old new : Outside) (request : Asked) (loaded_input : LoadedInput) : Type 0 where
   pub text : List ℕ
   pub listing : IsListing status solving loaded_input text
@@ -135,19 +138,20 @@ pub record IsReported (status : Status) (solving : Solving) (old new : Outside) 
   pub closing : AreClosing status solving request loaded_input lines
   pub outside : new ≡ with_report old request.output text (save_file status request) save lines
 
--- The output could not be opened: it is empty, its name was requested or not, and nothing was
--- solved.
+-- The output could not be opened: no output is open, its bytes are empty, its name was requested or
+-- not, and nothing was solved.
 pub record IsUnopened (solving : Solving) (old new : Outside) (request : Asked) : Type 0 where
   pub none : SolvesNothing solving
   pub outside : IsUnopenedFile old new request.output
 
--- A listing was not written whole: a prefix of the expected text was added to the opened output.
+-- The expected listing of the loaded input, `text`, was not written whole: a prefix of it was added
+-- to the opened output.
 pub record IsUnwritten (solving : Solving) (opened new : Outside) (loaded_input : LoadedInput) : Type 0 where
   pub text : List ℕ
   pub prefix : AddsPrefix opened new text
   pub expected : IsWrittenPrefix solving loaded_input text (length prefix.added)
 
--- The whole listing was written, but the output was not closed well.
+-- The whole listing was written, but closing the output failed.
 pub record IsUnclosed (solving : Solving) (old new : Outside) (request : Asked) (loaded_input : LoadedInput) : Type 0 where
   pub status : Status
   pub text : List ℕ
@@ -155,7 +159,7 @@ pub record IsUnclosed (solving : Solving) (old new : Outside) (request : Asked) 
   pub outside : new ≡ record (with_listing old request.output text) { writing = false }
 
 -- The whole listing was written, and its output is closed and kept. The save of the last state was
--- not written to its file, or the file was not closed well.
+-- not written whole to its file, or closing that file failed.
 pub record IsUnsaved (solving : Solving) (old new : Outside) (request : Asked) (loaded_input : LoadedInput) : Type 0 where
   pub status : Status
   pub text : List ℕ
@@ -166,8 +170,8 @@ pub record IsUnsaved (solving : Solving) (old new : Outside) (request : Asked) (
   pub saves : SavesLast solving loaded_input save
   pub outside : IsUnwrittenFile (with_file old request.output text) new name save
 
--- The whole listing was written, its output is closed and kept, and the last state was saved, if it
--- is to be. Of the closing lines a prefix was printed.
+-- The whole listing was written, its output is closed and kept, and the last state was saved, if
+-- that is requested. Of the closing lines a prefix was printed.
 pub record IsUnsaid (solving : Solving) (old new : Outside) (request : Asked) (loaded_input : LoadedInput) : Type 0 where
   pub status : Status
   pub text : List ℕ
@@ -178,13 +182,14 @@ pub record IsUnsaid (solving : Solving) (old new : Outside) (request : Asked) (l
   pub closing : AreClosing status solving request loaded_input lines
   pub beginning : PrintsPrefix (with_save (with_file old request.output text) (save_file status request) save) new lines
 
--- a run that could not write, by how far it came
+-- the run could not write all, and got as far as one of these five states says
 abbrev pub IsWriteFault : Solving → Outside → Outside → Asked → LoadedInput → Type 0
 IsWriteFault solving old new request loaded_input =
     IsUnopened solving old new request
     ⊎ (IsUnwritten solving (with_opened old request.output) new loaded_input ⊎ (IsUnclosed solving old new request loaded_input ⊎ (IsUnsaved solving old new request loaded_input ⊎ IsUnsaid solving old new request loaded_input)))
 
--- the run of a loaded input, by its status
+-- what the run of a loaded input with this status did to the host: it is reported, or ended by a
+-- write fault; for any other status there is no such run
 abbrev pub RanSo : Status → Solving → Outside → Outside → Asked → LoadedInput → Type 0
 RanSo Done solving old new request loaded_input = IsReported Done solving old new request loaded_input
 RanSo Compile solving old new request loaded_input = IsReported Compile solving old new request loaded_input
@@ -194,7 +199,8 @@ RanSo _ solving old new request loaded_input = ⊥
 
 -- ---- the statuses
 
--- The requested input was read and run. If the host hides its files, some input was.
+-- The input of the request was read and run, with this status. If the host hides its files, some
+-- input was.
 pub record IsRunOf (status : Status) (solving : Solving) (old new : Outside) (request : Asked) : Type 0 where
   pub taken : RunInput
   pub is_taken : IsInputOf old request.source taken
@@ -202,39 +208,41 @@ pub record IsRunOf (status : Status) (solving : Solving) (old new : Outside) (re
   pub is_loaded_input : IsLoadedInput solving.before.names taken loaded_input
   pub ran : RanSo status solving (with_taken old request.source taken) new request loaded_input
 
--- what a run with this status did for a request
+-- what a run with this status did for the request
 abbrev pub OfRequest : Status → Solving → Meaning → Meaning → Asked → Type 0
 OfRequest ReadFault solving old new request = IsReadFault old new request × SolvesNothing solving
 OfRequest status solving old new request = IsRunOf status solving old.outside new.outside request
 
--- what a run with this status did: refused arguments request nothing, and the usage line is printed
+-- what a run of these arguments with this status did: refused arguments request nothing, and the
+-- usage line is printed
 abbrev pub IsRun : Status → Solving → List (List ℕ) → Meaning → Meaning → Type 0
 IsRun Usage solving words old new = (request_of words ≡ None) × (SaysLine old new old.outside usage_line × SolvesNothing solving)
 IsRun status solving words old new = (request : Asked) × ((request_of words ≡ Some request) × OfRequest status solving old new request)
 
 -- ---- the counts of faults
 
--- how a run changes the counts, by its status: where it says so a fault was counted, and a precise
--- host counts none where a listing was reported
+-- how the counts of faults change in a run with this status: with ReadFault that of reading rises,
+-- with WriteFault that of writing; with Done, Compile and Execution a precise host counts none;
+-- with Usage nothing is claimed
 abbrev pub CountsSo : Status → Counts → Counts → Type 0
 CountsSo Usage old new = Unit {0}
 CountsSo ReadFault old new = Rose old.read_faults new.read_faults
 CountsSo WriteFault old new = Rose old.write_faults new.write_faults
 CountsSo status old new = old.precise ≡ true → new ≡ old
 
--- a run does not end with a fault of the host
+-- a run with this status does not end with a fault of the host
 abbrev pub EndsByNoFault : Status → Type 0
 EndsByNoFault ReadFault = ⊥
 EndsByNoFault WriteFault = ⊥
 EndsByNoFault status = Unit {0}
 
--- a host that exposes its files has those of a request
+-- the host, if it exposes its files, has the files of the request
 abbrev pub HasOrigin : Outside → Origin → Type 0
 HasOrigin o (in_file file) = IsThere o file
 HasOrigin o (restarted saved file) = IsThere o saved × IsThere o file
 HasOrigin o (generated size) = Unit {0}
 
--- The host is reliable, and if it exposes its files, it has those that the arguments name.
+-- The host is reliable, and if it exposes its files, it has those that the arguments request.
 pub record IsReadyFor (old : Meaning) (words : List (List ℕ)) : Type 0 where
   pub reliable : old.counts.reliable ≡ true
   pub there : IfSome (request_of words) (λ request. HasOrigin old.outside request.source)
@@ -245,23 +253,23 @@ pub record IsReadyFor (old : Meaning) (words : List (List ℕ)) : Type 0 where
 abbrev pub HasFile : Outside → List ℕ → List ℕ → Type 0
 HasFile o file bytes = (files : Files) × (o.files ≡ Some files) × (files_map.get files file ≡ Some bytes)
 
--- this input is what a host that exposes its files holds: the bytes of files, or the text of a
--- generated model
+-- the input is what a host that exposes its files has for a request: the bytes of files, or the
+-- text of a generated model
 abbrev pub IsContentOf : Outside → Origin → RunInput → Type 0
 IsContentOf o (in_file file) (from_start source) = HasFile o file source
 IsContentOf o (restarted saved file) (from_save save source) = HasFile o saved save × HasFile o file source
 IsContentOf o (generated size) (from_start source) = source ≡ generated_model_text size size size
 IsContentOf o origin taken = ⊥
 
--- The source of a script is a program without errors: it has a program with this view, and a
--- program with this view has no error, wherever its parts are in memory.
+-- The source of the script is a program without errors: it has a program with this view, and no
+-- program with this view has an error.
 pub record IsGood (solvers : List (List ℕ)) (script : Script) : Type 0 where
   pub view : ProgramView
   pub has_program : HasProgram frac_limit script.source view
   pub no_error : (program : Program Frac) → program_view frac_value program ≡ view → errors_of_script script.saved script.line program solvers ≡ []
 
--- A save can be restored: it is not too long, it is the save of a state of a program, and a solver
--- has the name that it has.
+-- The save can be restored, with solvers of these names: it is not too long, it is the save of a
+-- state of a program, and one of the solvers has the name that the save has.
 pub record IsGoodSave (solvers : List (List ℕ)) (save : List ℕ) : Type 0 where
   pub short : length save ≤ most_save_bytes
   pub source : List ℕ
@@ -271,28 +279,34 @@ pub record IsGoodSave (solvers : List (List ℕ)) (save : List ℕ) : Type 0 whe
   pub is_save : IsSaveOf save source program state solver
   pub placed : place_of_solver solvers solver ≢ None
 
--- the input can be run: it is a program without errors, and if it resumes from a save, the save can
--- be restored
+-- the input can be run, with solvers of these names: it is a program without errors, and if it
+-- resumes from a save, the save can be restored
 abbrev pub CanRun : List (List ℕ) → RunInput → Type 0
 CanRun solvers (from_start source) = IsGood solvers (script_of source)
 CanRun solvers (from_save save file) =
     IsGoodSave solvers save × ((saved : Saved) → IsRestored solvers save saved → IsGood solvers (joint_script saved.source.items saved.store file))
 
--- The arguments name a source that the host has, or a generated model.
+-- The arguments request a source that the host has, or a generated model; `taken` is this input.
 pub record NamesSource (old : Outside) (words : List (List ℕ)) : Type 0 where
   pub request : Asked
   pub named : request_of words ≡ Some request
   pub taken : RunInput
   pub found : IsContentOf old request.source taken
 
--- The arguments name what can be run.
+-- With solvers of these names the input from this origin can be run; a generated model always can.
+abbrev pub CanRunFrom : List (List ℕ) → Origin → RunInput → Type 0
+CanRunFrom solvers (generated size) taken = Unit {0}
+CanRunFrom solvers origin taken = CanRun solvers taken
+
+-- The arguments request an input that can be run, with solvers of these names.
 pub record NamesProgram (solvers : List (List ℕ)) (old : Outside) (words : List (List ℕ)) : Type 0 where
   pub source : NamesSource old words
-  pub can_run : CanRun solvers source.taken
+  pub can_run : CanRunFrom solvers source.request.source source.taken
 
 -- ---- execution errors
 
--- The input can be run, and its run with the solvers' answers is stopped by an execution error.
+-- The input can be run, and its run with these solvers and answers is stopped by an execution
+-- error.
 pub record IsStopped (solving : Solving) (taken : RunInput) : Type 0 where
   pub loaded_input : LoadedInput
   pub is_loaded_input : IsLoadedInput solving.before.names taken loaded_input
@@ -302,7 +316,7 @@ pub record IsStopped (solving : Solving) (taken : RunInput) : Type 0 where
 
 -- ---- faults of the host
 
--- no fault was met: the host is reliable, or neither count of faults rose
+-- no fault of the host was met: the host is reliable, or neither of its counts of faults rose
 abbrev pub MeetsNoFault : Counts → Counts → Type 0
 MeetsNoFault old new =
     (old.reliable ≡ true) ⊎ ((Rose old.read_faults new.read_faults → ⊥) × (Rose old.write_faults new.write_faults → ⊥))

@@ -147,7 +147,7 @@ impl Run {
         program: &Program<Frac>,
         answers: &[Answer<Frac>],
     ) -> Result<String, AllocError>
-        requires { AreSomeAnswers frac_value frac_limit self.now.solved.items answers.now }
+        requires { asked ≡ true → AreSomeAnswers frac_value frac_limit self.now.solved.items answers.now }
         ensures { IfOk result (λ text. IsRanged asked program.now self.now.solved.items answers.now (string_bytes text)) }
     {
         if !asked {
@@ -165,7 +165,7 @@ impl Run {
         program: &Program<Frac>,
         answers: &[Answer<Frac>],
     ) -> Result<String, AllocError>
-        requires { AreSomeAnswers frac_value frac_limit self.now.solved.items answers.now }
+        requires { request.ranges ≡ true → AreSomeAnswers frac_value frac_limit self.now.solved.items answers.now }
         ensures { IfOk result (λ text. IsRemarked
             (asked_by request.entry) program.now self.now.progress.store self.now.solved.items answers.now (string_bytes text)) }
     {

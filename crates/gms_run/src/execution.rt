@@ -16,7 +16,7 @@ ghost use Rattle.gms_host.specs.Spooling.{Passes, WritesPrefix};
 ghost use Rattle.gms_command.specs.CommandLine.{asked_by};
 ghost use Rattle.gms_run.specs.InnerReports.{Begins, HasRemarks, HasRest, HasSave, ListsBody, script_in};
 ghost use Rattle.gms_run.specs.InnerRuns.{ExecutesProgram, IsFresh, IsUnsolved, ListsStatement, moment, pending};
-ghost use Rattle.gms_run.specs.InnerSteps.{ResultsIn, programs_in, work};
+ghost use Rattle.gms_run.specs.InnerSteps.{ResultsIn, kept_if, programs_in, work};
 ghost use Rattle.gms_run.specs.Scripts.{scripted, statements_to_run};
 ghost use Rattle.gms_run.specs.Solving.{numbers_of, solver_views};
 
@@ -43,7 +43,7 @@ pub(crate) struct Run {
     /// Its progress: its state, and the answers of its solvers. Before its program begins, the
     /// state is the saved one, if it resumes from one.
     pub(crate) progress: Progress,
-    /// The linear programs of its solves, in order.
+    /// The linear programs of its solves, in order; none, unless ranges are requested.
     pub(crate) solved: Vec<Lp<Frac>>,
     /// The part of its listing that is not written yet.
     pub(crate) outlet: Outlet,
@@ -106,12 +106,13 @@ fn keep_programs(events: Vec<Event<Frac>>, solved: &mut Vec<Lp<Frac>>) -> Result
     Ok(())
 }
 
-/// Lists what a statement showed, and keeps the linear programs of its solves.
+/// Lists what a statement showed, and keeps the linear programs of its solves if requested.
 fn show(
     alloc: Global,
     program: &Program<Frac>,
     events: Vec<Event<Frac>>,
     answers: &[Answer<Frac>],
+    keep: bool,
     solved: &mut Vec<Lp<Frac>>,
     listing: &mut Listing,
 ) -> Result<(), AllocError>
@@ -119,10 +120,14 @@ fn show(
     ensures listed { OnOk result (listing.new ≡ listing.old ++
         events_text program.now.names program.now.labels frac_limit (numbers_of answers.now)
         (events_in frac_value events.items)) }
-    ensures kept { OnOk result (solved.new.items ≡ solved.old.items ++ programs_in events.items) }
+    ensures kept { OnOk result (solved.new.items ≡ solved.old.items ++ kept_if keep (programs_in events.items)) }
 {
     list_events(alloc, program, &events, answers, listing)?;
-    keep_programs(events, solved)
+    if !keep {
+        return Ok(());
+    }
+    keep_programs(events, solved)?;
+    Ok(())
 }
 
 /// Executes a statement that no loop contains.
@@ -200,17 +205,18 @@ impl Run {
     }
 
     /// Executes a statement that no loop contains, and lists what it shows and the fault that stops
-    /// it. Answers whether the run continues.
+    /// it. It keeps the linear programs of its solves if `keep`. Answers whether the run continues.
     fn statement(
         &mut self,
         alloc: Global,
         program: &Program<Frac>,
         s: &Stmt<Frac>,
+        keep: bool,
         solvers: &mut Vec<Box<dyn LpSolver>>,
     ) -> Result<bool, AllocError>
         requires few { length solvers.old.items < 2 ^ 32 }
         requires can_execute { CanExecute (length solvers.old.items) program.now.statements.items self.old.progress.store }
-        ensures listed { IfOk result (λ continues. ListsStatement continues program.now s.now
+        ensures listed { IfOk result (λ continues. ListsStatement keep continues program.now s.now
             (solver_views name rule paths solvers.old.items) self.old (solver_views name rule paths solvers.new.items) self.new) }
         ensures spool { OnOk result (self.new.outlet.spool ≡ self.old.outlet.spool) }
         ensures can_execute { OnOk result (CanExecute (length solvers.old.items) program.now.statements.items self.new.progress.store) }
@@ -224,12 +230,12 @@ impl Run {
         let listing = &mut self.outlet.listing;
         match stepped {
             Ok(()) => {
-                show(alloc, program, events, answers, solved, listing)?;
+                show(alloc, program, events, answers, keep, solved, listing)?;
                 Ok(true)
             }
             Err(ExecStopOrMemory::Memory) => Err(AllocError),
             Err(ExecStopOrMemory::Fault(stop)) => {
-                show(alloc, program, events, answers, solved, listing)?;
+                show(alloc, program, events, answers, keep, solved, listing)?;
                 list_fault(alloc, program, stop, answers, listing)?;
                 Ok(false)
             }
@@ -244,6 +250,7 @@ impl Run {
         host: &mut H,
         program: &Program<Frac>,
         list: &[Stmt<Frac>],
+        keep: bool,
         solvers: &mut Vec<Box<dyn LpSolver>>,
     ) -> Result<Status, Failed>
         requires open { (H.meaning host.old).outside.writing ≡ true }
@@ -251,13 +258,13 @@ impl Run {
         requires can_execute { CanExecute (length solvers.old.items) program.now.statements.items self.old.progress.store }
         requires unsolved { IsUnsolved self.old }
         requires within_bound { length (pending self.old) ≤ 4096 }
-        ensures outside { ExecutesProgram result (work program.now self.old.progress.store list.now)
+        ensures outside { ExecutesProgram keep result (work program.now self.old.progress.store list.now)
             (moment name rule paths (H.meaning host.old) solvers.old.items self.old)
             (moment name rule paths (H.meaning host.new) solvers.new.items self.new) }
         ensures counts { CountsWriting result (H.meaning host.old).counts (H.meaning host.new).counts }
     {
         for s in list {
-            let continues = self.statement(alloc, program, s, solvers)?;
+            let continues = self.statement(alloc, program, s, keep, solvers)?;
             self.outlet.pass(host)?;
             if !continues {
                 return Ok(Status::Execution);
@@ -281,7 +288,7 @@ impl Run {
         requires can_execute { CanExecute (length solvers.old.items) program.now.statements.items self.old.progress.store }
         requires unsolved { IsUnsolved self.old }
         requires within_bound { length (pending self.old) ≤ 4096 }
-        ensures outside { (state : State) → ExecutesProgram result
+        ensures outside { (state : State) → ExecutesProgram request.entry.ranges result
             (work program.now self.old.progress.store
             (statements_to_run (script_in script.entry state).saved script.entry.line program.now))
             (moment name rule paths (H.meaning host.old) solvers.old.items self.old)
@@ -292,7 +299,7 @@ impl Run {
         ensures counts { CountsWriting result (H.meaning host.old).counts (H.meaning host.new).counts }
     {
         let list = statements_of(script, program);
-        let status = self.statements(alloc, host, program, list, solvers)?;
+        let status = self.statements(alloc, host, program, list, request.ranges, solvers)?;
         let given = self.progress.answers.as_slice();
         let text = self.remark(alloc, request, program, given)?;
         self.remarks = text;

@@ -12,20 +12,22 @@ const SEAM: &[u8] = b"\n;\n";
 /// How many lines a joint source has before its file, beside those that end in the saved source.
 const SEAM_LINES: u32 = 3;
 
-/// A source to run.
+/// A source to run: a file alone, or a file that resumes from a saved state.
 #[derive(Clone, Copy)]
 pub(crate) struct Script<'a> {
-    /// The whole source: the file, or a saved source followed by the file.
+    /// The bytes of the whole source: the file alone, or the joint source, a saved source followed
+    /// by the file.
     pub source: &'a [u8],
-    /// The file, whose lines are echoed.
+    /// The bytes of the file to run. Its lines are echoed in the listing, and those of a saved
+    /// source before it are not.
     pub file: &'a [u8],
-    /// The number of the first line of the file.
+    /// The number of the file's first line in the whole source, from 1.
     pub line: u32,
-    /// Whether the file resumes from a saved state.
+    /// Whether the file resumes from a saved state, so that the source is a joint source.
     pub joint: bool,
 }
 
-/// The loaded input.
+/// What loading the input gives.
 #[derive(Clone, Copy)]
 pub(crate) enum LoadedInput<'a> {
     /// A source.

@@ -4,9 +4,10 @@ ghost use Rattle.gms_run.specs.ProgramsToRun.{status_code};
 
 /// How a run ends.
 ///
-/// The numbers are those of `code`. After Usage and ReadFault no output was requested. After Done,
-/// Compile and Execution the output holds the whole listing. After WriteFault it may hold a prefix
-/// of it, or all of it with a prefix of the save.
+/// `code` gives the number of a status. After Usage and ReadFault no output was opened. After Done,
+/// Compile and Execution the output has the whole listing. After WriteFault the output may have a
+/// prefix of the listing, or all of it; if it has all, the file for the save may have a prefix of
+/// the save.
 #[derive(Clone, Copy, PartialEq, Eq)]
 pub enum Status {
     /// Every statement was executed, and the whole listing was written, and with `--save` the save.
@@ -24,8 +25,8 @@ pub enum Status {
 }
 
 impl Status {
-    /// The exit status of the program: 0 done, 1 usage, 2 compile, 3 execution, 4 read fault, 5
-    /// write fault.
+    /// The exit status with which `gams25` ends after such a run: 0 done, 1 usage, 2 compile, 3
+    /// execution, 4 read fault, 5 write fault.
     pub fn code(self) -> u8
         ensures { result ≡ status_code self }
     {

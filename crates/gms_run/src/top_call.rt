@@ -30,12 +30,13 @@ use lp_slot::LpSolver;
 use std::alloc::{AllocError, Global};
 use std::mem::{replace, swap};
 
-/// How a run ended.
+/// How a run ended, with the answers of its solves.
 #[derive(Drop)]
 pub struct Ended {
-    /// Its status.
+    /// The status with which the run ended.
     pub status: Status,
-    /// The answers of the solvers, in the order of the solves.
+    /// The answers that the solvers gave in the run, in the order of the solves; none if nothing
+    /// was solved.
     pub answers: Vec<Answer<Frac>>,
 }
 
@@ -374,48 +375,50 @@ fn run_words<H: Host>(
 /// The arguments are those of a `clap` command: an optional FILE, `--out` with the name of the
 /// listing, `--generate` with a number from 1 to 30, `--save` and `--restart` with the name of a
 /// file each, and the flag `--ranges`. Exactly one of FILE and `--generate` is given, and
-/// `--restart` goes with FILE alone. The source is read, or generated, before the output is opened.
-/// The listing is written there statement by statement. After the output is closed the closing
-/// lines are printed (docs/LISTING.md); with `--ranges` they begin with how far each right side and
-/// each cost of each optimum may move.
+/// `--restart` goes only with FILE. The source is read, or generated, before the output is opened.
+/// The listing is written to the output statement by statement. After the output is closed the
+/// closing lines are printed (docs/LISTING.md); with `--ranges` they begin with how far each right
+/// side and each cost of each optimum may move.
 ///
-/// With `--restart` that file is read before FILE, and FILE resumes from the state that was saved
-/// in it: the source is the saved source followed by FILE; the lines of FILE are echoed, and its
-/// statements are executed. With `--save`, where every statement was executed, the last state is
-/// written to that file, after the output is closed and before the closing lines (docs/SAVES.md;
-/// GAMS User's Guide, "Save and Restart"). `restore` gives this state back, unless the save is too
-/// long.
+/// With `--restart` the file of this option, a save, is read before FILE, and FILE resumes from the
+/// state that the save has: the source is the saved source followed by FILE; the lines of FILE are
+/// echoed, and its statements are executed. With `--save`, if every statement was executed, the
+/// last state is written to the file of this option, after the output is closed and before the
+/// closing lines (docs/SAVES.md; GAMS User's Guide, "Save and Restart"). `restore` gives this state
+/// back, unless the save is too long.
 ///
-/// `headline` is the promise for a FILE alone: the listing is that of its source, what each answer
-/// says of plans is so, and nothing else changes outside. `answers` says the second of every run. A
-/// plan gives each element of a variable a number. It is feasible where it satisfies the equations
-/// of the model and the bounds of the listed elements, with the data of the moment of the solve.
-/// Optimal: the listed levels are feasible, and no feasible plan is better. Infeasible: no plan is
-/// feasible. Unbounded: for each number some feasible plan is better. The listed elements are those
-/// that occur in a row, and the objective: an answer says nothing of the levels and bounds of
-/// others.
+/// The clause `headline` is the promise for a FILE alone: the listing is that of its source, what
+/// each answer says of plans is true, and nothing else changes outside. The clause `answers` states
+/// the truth of answers for every run. A plan gives each element of a variable a number. A plan is
+/// feasible if it satisfies the equations of the model and the bounds of the listed elements, with
+/// the data at the moment of the solve. Optimal: the listed levels are feasible, and no feasible
+/// plan is better. Infeasible: no plan is feasible. Unbounded: for each number some feasible plan
+/// has a better objective. The listed elements are those that occur in a row, and the objective: an
+/// answer says nothing of the levels and bounds of other elements.
 ///
-/// `run` says the same of every request, and what the other statuses mean. Done and Execution: the
-/// source is accepted, its run takes all answers, each of which answers its linear program, and the
-/// listing is the text of that run. Compile: the source is refused, or the save cannot be restored,
-/// and the listing says why. Usage: the arguments request no source. ReadFault: a file was not
-/// read. WriteFault: how far the run came; where something was solved, all answers are used by the
+/// The clause `run` states what every run did, by its status. Done and Execution: the source is
+/// accepted, its run takes all answers, each of which answers its linear program, and the listing
+/// is the text of that run. Compile: the source is refused, or the save cannot be restored, and the
+/// listing says why. Usage: the arguments request no source. ReadFault: a file was not read.
+/// WriteFault: how far the run came; if something was solved, all answers are used by the
 /// statements whose text was written and at most one statement more, except for the last 4,096
 /// bytes. The solvers keep their names and rules, and the pivots of each answer are appended to the
 /// paths of the solver that gave it; with Usage, Compile and ReadFault nothing is solved. There are
 /// fewer than 2^32 solvers.
 ///
-/// `usage`, `compile` and `execution` say exactly where a run ends with Usage, Compile and
-/// Execution, the last two over a host that exposes its files, where no fault is met. Execution
-/// comes exactly where the run that the source means is stopped by an execution error, with the
-/// answers that the solvers give in it: later statements read them, so they may decide it.
+/// The clauses `usage`, `compile` and `execution` state exactly when a run ends with Usage, Compile
+/// and Execution, the last two over a host that exposes its files, if no fault is met. A run ends
+/// with Execution exactly if the run that the source means is stopped by an execution error, with
+/// the answers that the solvers give in this run. Later statements read these answers, so the
+/// answers may decide whether an error occurs.
 ///
-/// What the clauses leave open: `AllocError` comes where a growth finds no memory, here or in the
-/// host. Then only `steady` holds, and the output may hold a prefix of a listing. Where the host
-/// hides its files, the source is some source, and `compile`, `execution` and `complete` are
-/// silent. `RealHost`, the host over real files, hides them: that it reads and writes the files
-/// that are named is trusted. Of a solver whose rule is Legal the clauses promise legal pivots, and
-/// not which of them.
+/// What the clauses leave open: the error `AllocError` means out of memory, here or in the host.
+/// Then only `steady` holds, and the output may have a prefix of a listing. If the host hides its
+/// files, a FILE has some content, and `compile`, `execution` and `complete` say nothing of a run
+/// of FILE; of a run of a generated model they state the same as over any other host. `RealHost`,
+/// the host over real files, hides them: that it reads and writes the files that the arguments name
+/// is trusted. For a solver whose rule is Legal the clauses promise legal pivots, and not which
+/// legal pivots.
 pub fn run<H: Host>(
     alloc: Global,
     words: &[String],
@@ -423,30 +426,30 @@ pub fn run<H: Host>(
     solvers: &mut Vec<Box<dyn LpSolver>>,
 ) -> Result<Ended, AllocError>
     requires { length solvers.old.items < 2 ^ 32 }
-    // Where the arguments request a FILE alone: its source, the listing of that source by the
-    // status, and nothing else outside.
+    // If the arguments request a FILE alone: its source, the listing of that source by the status,
+    // and nothing else outside.
     ensures headline { IfOk result (λ ended. (file output : List ℕ) → request_of (texts words.now) ≡ Some (file_alone file output) → HasListing ended.status →
         WritesListing ended.status (solving name rule paths solvers.old.items solvers.new.items ended.answers.items) (H.meaning host.old).outside (H.meaning host.new).outside file output) }
 
-    // The same for all arguments, saves and restarts, and what the other statuses mean.
+    // What a run of any arguments did, with saves and restarts, by its status.
     ensures run { IfOk result (λ ended. IsRun ended.status
         (solving name rule paths solvers.old.items solvers.new.items ended.answers.items) (texts words.now) (H.meaning host.old)
         (H.meaning host.new)) }
 
-    // What each answer says of plans is so, in the run of whatever was executed, from its start or
-    // from a save.
+    // What each answer says of plans is true, in each run that executed its input, from its start
+    // or from a save.
     ensures answers { IfOk result (λ ended. RunIsAnsweredRightly (solving name rule paths solvers.old.items solvers.new.items ended.answers.items)) }
 
-    // A fault is answered only where one of its kind was counted, and a ready host counts none and
-    // ends by none.
+    // A run ends with a fault of the host only if one of its kind was counted. A ready host counts
+    // none, and no run over it ends with one.
     ensures counts { IfOk result (λ ended. CountsSo ended.status (H.meaning host.old).counts (H.meaning host.new).counts) }
     ensures steady { IsReadyFor (H.meaning host.old) (texts words.now) → (H.meaning host.new).counts ≡ (H.meaning host.old).counts }
     ensures no_fault { IsReadyFor (H.meaning host.old) (texts words.now) → IfOk result (λ ended. EndsByNoFault ended.status) }
 
-    // The arguments are refused exactly where they request no source. Where no fault is met, a
-    // source of a host that exposes its files is refused exactly where it cannot be run, ends with
-    // an execution error exactly where its run with these answers is stopped by one, and a program
-    // is run.
+    // The arguments are refused exactly if they request no source. If no fault is met, and the host
+    // exposes its files, then a source is refused exactly if it cannot be run, its run ends with an
+    // execution error exactly if the run with these answers is stopped by one, and a program is
+    // run, as a generated model always is.
     ensures usage { IfOk result (λ ended. (ended.status ≡ Status.Usage) ↔ (request_of (texts words.now) ≡ None)) }
     ensures compile { (source : NamesSource (H.meaning host.old).outside (texts words.now)) →
         MeetsNoFault (H.meaning host.old).counts (H.meaning host.new).counts →

@@ -1,6 +1,7 @@
 use Rattle.gms_command.proofs.PlainWords.{is_file}
 use Rattle.gms_command.proofs.Parts.{by_parts}
 use Rattle.gms_command.proofs.Forms.{out, save, restart, ranges, generate, empty, beside_generate, twice}
+use Rattle.gms_command.proofs.RequestedSizes.{requested_within}
 use Rattle.gms_command.proofs.laws.argument_laws.Goals as goal
 
 pub returns-clause-parts : goal.returns-clause-parts
@@ -23,6 +24,9 @@ returns-clause-ranges c = ranges
 
 pub returns-clause-generate : goal.returns-clause-generate
 returns-clause-generate c = generate
+
+pub returns-clause-sizes : goal.returns-clause-sizes
+returns-clause-sizes c = requested_within
 
 pub returns-clause-empty : goal.returns-clause-empty
 returns-clause-empty c = empty

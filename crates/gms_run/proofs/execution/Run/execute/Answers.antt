@@ -45,8 +45,8 @@ returns-clause-outside g c state begins =
     let to_run = program_to_run (script_in c.args.script state) c.args.program.now in
     let is_to_run = program_of_script (map (λ b. (goal.LpSolver-dyn g (b.vtable, b.value)).name b.value) c.args.solvers.now.items) (script_in c.args.script state) c.args.program.now begins.accepted in
     comes_as c.to_end.result _ _
-    (λ status ends. prepares_program status (solving (λ b. (goal.LpSolver-dyn g (b.vtable, b.value)).name b.value) (λ b. (goal.LpSolver-dyn g (b.vtable, b.value)).rule b.value) (λ b. (goal.LpSolver-dyn g (b.vtable, b.value)).paths b.value) c.args.solvers.now.items c.to_end.new.solvers.items c.to_end.new.self.progress.answers.items) (g.H.Host.meaning c.args.host.now).outside (g.H.Host.meaning c.to_end.new.host).outside (scripted (script_in c.args.script state)) _ to_run c.to_end.new.self.progress.store c.to_end.new.self.solved.items is_to_run
-    (ends_echoed to_run (g.H.Host.meaning c.args.host.now).outside (g.H.Host.meaning c.pass_echo.new.host).outside c.pass_echo.new.outlet.spool c.pass_echo.new.outlet.listing c.in_ok-pass_echo.ensures.outside c.in_ok-pass_echo.ensures.none status (solving (λ b. (goal.LpSolver-dyn g (b.vtable, b.value)).name b.value) (λ b. (goal.LpSolver-dyn g (b.vtable, b.value)).rule b.value) (λ b. (goal.LpSolver-dyn g (b.vtable, b.value)).paths b.value) c.args.solvers.now.items c.to_end.new.solvers.items c.to_end.new.self.progress.answers.items) c.args.self.now.progress.store c.to_end.new.self.progress.store c.to_end.new.self.solved.items (g.H.Host.meaning c.to_end.new.host).outside _ begins.first ends))
+    (λ status ends. prepares_program c.args.request.ranges status (solving (λ b. (goal.LpSolver-dyn g (b.vtable, b.value)).name b.value) (λ b. (goal.LpSolver-dyn g (b.vtable, b.value)).rule b.value) (λ b. (goal.LpSolver-dyn g (b.vtable, b.value)).paths b.value) c.args.solvers.now.items c.to_end.new.solvers.items c.to_end.new.self.progress.answers.items) (g.H.Host.meaning c.args.host.now).outside (g.H.Host.meaning c.to_end.new.host).outside (scripted (script_in c.args.script state)) _ to_run c.to_end.new.self.progress.store c.to_end.new.self.solved.items is_to_run
+    (ends_echoed to_run (g.H.Host.meaning c.args.host.now).outside (g.H.Host.meaning c.pass_echo.new.host).outside c.pass_echo.new.outlet.spool c.pass_echo.new.outlet.listing c.in_ok-pass_echo.ensures.outside c.in_ok-pass_echo.ensures.none c.args.request.ranges status (solving (λ b. (goal.LpSolver-dyn g (b.vtable, b.value)).name b.value) (λ b. (goal.LpSolver-dyn g (b.vtable, b.value)).rule b.value) (λ b. (goal.LpSolver-dyn g (b.vtable, b.value)).paths b.value) c.args.solvers.now.items c.to_end.new.solvers.items c.to_end.new.self.progress.answers.items) c.args.self.now.progress.store c.to_end.new.self.progress.store c.to_end.new.self.solved.items (g.H.Host.meaning c.to_end.new.host).outside _ begins.first ends))
     (λ broken. unwritten_program (solving (λ b. (goal.LpSolver-dyn g (b.vtable, b.value)).name b.value) (λ b. (goal.LpSolver-dyn g (b.vtable, b.value)).rule b.value) (λ b. (goal.LpSolver-dyn g (b.vtable, b.value)).paths b.value) c.args.solvers.now.items c.to_end.new.solvers.items c.to_end.new.self.progress.answers.items) (g.H.Host.meaning c.args.host.now).outside (g.H.Host.meaning c.to_end.new.host).outside (scripted (script_in c.args.script state)) to_run is_to_run
     (breaks_echoed to_run (g.H.Host.meaning c.args.host.now).outside (g.H.Host.meaning c.pass_echo.new.host).outside c.pass_echo.new.outlet.spool c.pass_echo.new.outlet.listing c.in_ok-pass_echo.ensures.outside c.in_ok-pass_echo.ensures.none (solving (λ b. (goal.LpSolver-dyn g (b.vtable, b.value)).name b.value) (λ b. (goal.LpSolver-dyn g (b.vtable, b.value)).rule b.value) (λ b. (goal.LpSolver-dyn g (b.vtable, b.value)).paths b.value) c.args.solvers.now.items c.to_end.new.solvers.items c.to_end.new.self.progress.answers.items) c.args.self.now.progress.store (g.H.Host.meaning c.to_end.new.host).outside begins.first broken)) (c.to_end.ensures.outside state)
 
@@ -56,7 +56,7 @@ returns-clause-follows g c state begins =
     let is_to_run = program_of_script (map (λ b. (goal.LpSolver-dyn g (b.vtable, b.value)).name b.value) c.args.solvers.now.items) (script_in c.args.script state) c.args.program.now begins.accepted in
     told_as c.to_end.result _ _ _ _
     (λ status ends both. follows_program status (solving (λ b. (goal.LpSolver-dyn g (b.vtable, b.value)).name b.value) (λ b. (goal.LpSolver-dyn g (b.vtable, b.value)).rule b.value) (λ b. (goal.LpSolver-dyn g (b.vtable, b.value)).paths b.value) c.args.solvers.now.items c.to_end.new.solvers.items c.to_end.new.self.progress.answers.items) (asked_by c.args.request) (scripted (script_in c.args.script state)) (string_bytes c.to_end.new.self.remarks) c.to_end.new.self.save.items to_run c.to_end.new.self.progress.store c.to_end.new.self.solved.items (map (λ b. (goal.LpSolver-dyn g (b.vtable, b.value)).name b.value) c.to_end.new.solvers.items) is_to_run begins.origin
-    (ends_echoed to_run (g.H.Host.meaning c.args.host.now).outside (g.H.Host.meaning c.pass_echo.new.host).outside c.pass_echo.new.outlet.spool c.pass_echo.new.outlet.listing c.in_ok-pass_echo.ensures.outside c.in_ok-pass_echo.ensures.none status (solving (λ b. (goal.LpSolver-dyn g (b.vtable, b.value)).name b.value) (λ b. (goal.LpSolver-dyn g (b.vtable, b.value)).rule b.value) (λ b. (goal.LpSolver-dyn g (b.vtable, b.value)).paths b.value) c.args.solvers.now.items c.to_end.new.solvers.items c.to_end.new.self.progress.answers.items) c.args.self.now.progress.store c.to_end.new.self.progress.store c.to_end.new.self.solved.items (g.H.Host.meaning c.to_end.new.host).outside _ begins.first ends).ends both.0 both.1 ends.ends.solved.extended.names begins.named) (c.to_end.ensures.outside state) (both_of c.to_end.result _ _ c.to_end.ensures.remarks c.to_end.ensures.saved)
+    (ends_echoed to_run (g.H.Host.meaning c.args.host.now).outside (g.H.Host.meaning c.pass_echo.new.host).outside c.pass_echo.new.outlet.spool c.pass_echo.new.outlet.listing c.in_ok-pass_echo.ensures.outside c.in_ok-pass_echo.ensures.none c.args.request.ranges status (solving (λ b. (goal.LpSolver-dyn g (b.vtable, b.value)).name b.value) (λ b. (goal.LpSolver-dyn g (b.vtable, b.value)).rule b.value) (λ b. (goal.LpSolver-dyn g (b.vtable, b.value)).paths b.value) c.args.solvers.now.items c.to_end.new.solvers.items c.to_end.new.self.progress.answers.items) c.args.self.now.progress.store c.to_end.new.self.progress.store c.to_end.new.self.solved.items (g.H.Host.meaning c.to_end.new.host).outside _ begins.first ends).ends both.0 both.1 ends.ends.solved.extended.names begins.named) (c.to_end.ensures.outside state) (both_of c.to_end.result _ _ c.to_end.ensures.remarks c.to_end.ensures.saved)
 
 pub returns-clause-counts : goal.returns-clause-counts
 returns-clause-counts g c = writing_more _ c.in_ok-pass_echo.ensures.counts c.to_end.ensures.counts

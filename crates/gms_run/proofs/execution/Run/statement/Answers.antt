@@ -29,7 +29,7 @@ returns-in_ok-show-in-Ok-clause-listed g c =
     let answers = c.step_alone-stepped.new.run.answers.items in
     let events = c.step_alone-stepped.new.run.events.items in
     let before = c.args.self.now.outlet.listing in
-    listed_on program rules (of_statement frac_value frac_limit (record { program = program; solvers = names }) c.args.s.now []) (between (solver_views (λ b. (goal.LpSolver-dyn g (b.vtable, b.value)).name b.value) (λ b. (goal.LpSolver-dyn g (b.vtable, b.value)).rule b.value) (λ b. (goal.LpSolver-dyn g (b.vtable, b.value)).paths b.value) c.args.solvers.now.items) c.args.self.now)
+    listed_on c.args.keep program rules (of_statement frac_value frac_limit (record { program = program; solvers = names }) c.args.s.now []) (between (solver_views (λ b. (goal.LpSolver-dyn g (b.vtable, b.value)).name b.value) (λ b. (goal.LpSolver-dyn g (b.vtable, b.value)).rule b.value) (λ b. (goal.LpSolver-dyn g (b.vtable, b.value)).paths b.value) c.args.solvers.now.items) c.args.self.now)
     (record { state = c.step_alone-stepped.new.run.store; answers = answers; programs = c.show.new.solved.items; solvers = (solver_views (λ b. (goal.LpSolver-dyn g (b.vtable, b.value)).name b.value) (λ b. (goal.LpSolver-dyn g (b.vtable, b.value)).rule b.value) (λ b. (goal.LpSolver-dyn g (b.vtable, b.value)).paths b.value) c.step_alone-stepped.new.solvers.items) }) events
     (λ beginning course. after_statement frac_value frac_limit (record { program = program; solvers = names }) c.args.s.now beginning [] course)
     c.in-Ok.field-0 c.clear.new.self.items before c.show.new.listing c.clear.ensures.items
@@ -61,7 +61,7 @@ returns-in_ok-list_fault-in-Err-Fault-clause-listed g c =
     let events = c.step_alone-stepped.new.run.events.items in
     let before = c.args.self.now.outlet.listing in
     let leaves = rw c.in-Err-Fault.field-0-is at c.in-Err-Fault.ensures.leaves in
-    listed_stop program rules (of_statement frac_value frac_limit (record { program = program; solvers = names }) c.args.s.now []) (between (solver_views (λ b. (goal.LpSolver-dyn g (b.vtable, b.value)).name b.value) (λ b. (goal.LpSolver-dyn g (b.vtable, b.value)).rule b.value) (λ b. (goal.LpSolver-dyn g (b.vtable, b.value)).paths b.value) c.args.solvers.now.items) c.args.self.now)
+    listed_stop c.args.keep program rules (of_statement frac_value frac_limit (record { program = program; solvers = names }) c.args.s.now []) (between (solver_views (λ b. (goal.LpSolver-dyn g (b.vtable, b.value)).name b.value) (λ b. (goal.LpSolver-dyn g (b.vtable, b.value)).rule b.value) (λ b. (goal.LpSolver-dyn g (b.vtable, b.value)).paths b.value) c.args.solvers.now.items) c.args.self.now)
     (record { state = c.step_alone-stepped.new.run.store; answers = answers; programs = c.show-in-Err-Fault.new.solved.items; solvers = (solver_views (λ b. (goal.LpSolver-dyn g (b.vtable, b.value)).name b.value) (λ b. (goal.LpSolver-dyn g (b.vtable, b.value)).rule b.value) (λ b. (goal.LpSolver-dyn g (b.vtable, b.value)).paths b.value) c.step_alone-stepped.new.solvers.items) }) events
     (λ beginning course. after_statement frac_value frac_limit (record { program = program; solvers = names }) c.args.s.now beginning [] course)
     c.in-Err-Fault.stop c.clear.new.self.items before c.show-in-Err-Fault.new.listing c.list_fault.new.listing c.clear.ensures.items

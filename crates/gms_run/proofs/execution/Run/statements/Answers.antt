@@ -13,7 +13,7 @@ use Rattle.gms_run.proofs.execution.Run.statements.Goals as goal
 pub loop-s-init : goal.loop-s-init
 loop-s-init g c =
     record {
-      come = come_start (work c.args.program.now c.args.self.now.progress.store c.args.list.now) (solver_views (λ b. (goal.LpSolver-dyn g (b.vtable, b.value)).name b.value) (λ b. (goal.LpSolver-dyn g (b.vtable, b.value)).rule b.value) (λ b. (goal.LpSolver-dyn g (b.vtable, b.value)).paths b.value) c.args.solvers.now.items) _ _ c.args.self.now.progress.answers.items c.args.self.now.solved.items c.requires.unsolved.unanswered c.requires.unsolved.unsolved;
+      come = come_start (work c.args.program.now c.args.self.now.progress.store c.args.list.now) (solver_views (λ b. (goal.LpSolver-dyn g (b.vtable, b.value)).name b.value) (λ b. (goal.LpSolver-dyn g (b.vtable, b.value)).rule b.value) (λ b. (goal.LpSolver-dyn g (b.vtable, b.value)).paths b.value) c.args.solvers.now.items) c.args.keep _ _ c.args.self.now.progress.answers.items c.args.self.now.solved.items c.requires.unsolved.unanswered c.requires.unsolved.unsolved;
       within_bound = c.requires.within_bound;
       can_execute = c.requires.can_execute;
       counts = writing_none tt _;
@@ -52,9 +52,9 @@ returns-in_err-pass-clause-outside g c =
     let next = between those run in
     let at = c.loop-s.invariant in
     let executes =
-    executes_run to_run before old expected mid c.in_ok-continues.continues c.loop-s.s-index c.s-item.result these those c.loop-s.self run c.args.list.now at.come at.within_bound refl c.loop-s-test.true c.s-item.is c.in_ok-continues.ensures.listed c.in_ok-continues.ensures.spool in
+    executes_run to_run before c.args.keep old expected mid c.in_ok-continues.continues c.loop-s.s-index c.s-item.result these those c.loop-s.self run c.args.list.now at.come at.within_bound refl c.loop-s-test.true c.s-item.is c.in_ok-continues.ensures.listed c.in_ok-continues.ensures.spool in
     let p = err_from_is_err_and c.from_residual-in_err-pass.result c.from_residual-in_err-pass.ensures.1 in
-    rw (p.1, p.2) (comes_broken _ c.in_err-pass.field-0.0 (broke to_run before old expected mid (g.H.Host.meaning c.pass.new.host).outside c.in_ok-continues.continues c.loop-s.s-index next (pending run) executes c.in_err-pass.ensures.outside.0))
+    rw (p.1, p.2) (comes_broken _ c.in_err-pass.field-0.0 (broke to_run before c.args.keep old expected mid (g.H.Host.meaning c.pass.new.host).outside c.in_ok-continues.continues c.loop-s.s-index next (pending run) executes c.in_err-pass.ensures.outside.0))
 
 pub returns-in_err-pass-clause-counts : goal.returns-in_err-pass-clause-counts
 returns-in_err-pass-clause-counts g c =
@@ -74,9 +74,9 @@ returns-then-not-continues-clause-outside g c =
     let next = between those run in
     let at = c.loop-s.invariant in
     let executes =
-    executes_run to_run before old expected mid c.in_ok-continues.continues c.loop-s.s-index c.s-item.result these those c.loop-s.self run c.args.list.now at.come at.within_bound refl c.loop-s-test.true c.s-item.is c.in_ok-continues.ensures.listed c.in_ok-continues.ensures.spool in
-    let stops = subst (λ b. Executes to_run before old expected mid b c.loop-s.s-index next (pending run)) c.if-not-continues.true executes in
-    came_stopped to_run before old expected mid (g.H.Host.meaning c.pass.new.host).outside c.loop-s.s-index next (pending run) c.pass.new.self.spool c.pass.new.self.listing stops c.in_ok-pass.ensures.outside c.in_ok-pass.ensures.within_bound c.in_ok-pass.ensures.none
+    executes_run to_run before c.args.keep old expected mid c.in_ok-continues.continues c.loop-s.s-index c.s-item.result these those c.loop-s.self run c.args.list.now at.come at.within_bound refl c.loop-s-test.true c.s-item.is c.in_ok-continues.ensures.listed c.in_ok-continues.ensures.spool in
+    let stops = subst (λ b. Executes to_run before c.args.keep old expected mid b c.loop-s.s-index next (pending run)) c.if-not-continues.true executes in
+    came_stopped to_run before c.args.keep old expected mid (g.H.Host.meaning c.pass.new.host).outside c.loop-s.s-index next (pending run) c.pass.new.self.spool c.pass.new.self.listing stops c.in_ok-pass.ensures.outside c.in_ok-pass.ensures.within_bound c.in_ok-pass.ensures.none
 
 pub returns-then-not-continues-clause-counts : goal.returns-then-not-continues-clause-counts
 returns-then-not-continues-clause-counts g c =
@@ -95,10 +95,10 @@ loop-s-preserved g c =
     let next = between those run in
     let at = c.loop-s.invariant in
     let executes =
-    executes_run to_run before old expected mid c.in_ok-continues.continues c.loop-s.s-index c.s-item.result these those c.loop-s.self run c.args.list.now at.come at.within_bound refl c.loop-s-test.true c.s-item.is c.in_ok-continues.ensures.listed c.in_ok-continues.ensures.spool in
-    let goes = subst (λ b. Executes to_run before old expected mid b c.loop-s.s-index next (pending run)) c.if-not-continues.false executes in
+    executes_run to_run before c.args.keep old expected mid c.in_ok-continues.continues c.loop-s.s-index c.s-item.result these those c.loop-s.self run c.args.list.now at.come at.within_bound refl c.loop-s-test.true c.s-item.is c.in_ok-continues.ensures.listed c.in_ok-continues.ensures.spool in
+    let goes = subst (λ b. Executes to_run before c.args.keep old expected mid b c.loop-s.s-index next (pending run)) c.if-not-continues.false executes in
     record {
-      come = come_more to_run before old expected mid (g.H.Host.meaning c.pass.new.host).outside c.loop-s.s-index next (pending run) c.pass.new.self.spool c.pass.new.self.listing goes c.in_ok-pass.ensures.outside c.in_ok-pass.ensures.none;
+      come = come_more to_run before c.args.keep old expected mid (g.H.Host.meaning c.pass.new.host).outside c.loop-s.s-index next (pending run) c.pass.new.self.spool c.pass.new.self.listing goes c.in_ok-pass.ensures.outside c.in_ok-pass.ensures.none;
       within_bound = bound_after c.pass.new.self.spool c.pass.new.self.listing c.in_ok-pass.ensures.within_bound c.in_ok-pass.ensures.none;
       can_execute = subst (λ n. CanExecute n c.args.program.now.statements.items run.progress.store) (same_many (λ b. (goal.LpSolver-dyn g (b.vtable, b.value)).name b.value) c.loop-s.solvers.items c.args.solvers.now.items c.loop-s.invariant.come.done.extended.names) c.in_ok-continues.ensures.can_execute;
       counts = writing_more tt at.counts (writing_done _ tt c.in_ok-pass.ensures.counts);
@@ -106,7 +106,7 @@ loop-s-preserved g c =
 
 pub returns-clause-outside : goal.returns-clause-outside
 returns-clause-outside g c =
-    came_done (work c.args.program.now c.args.self.now.progress.store c.args.list.now) (solver_views (λ b. (goal.LpSolver-dyn g (b.vtable, b.value)).name b.value) (λ b. (goal.LpSolver-dyn g (b.vtable, b.value)).rule b.value) (λ b. (goal.LpSolver-dyn g (b.vtable, b.value)).paths b.value) c.args.solvers.now.items) (g.H.Host.meaning c.args.host.now).outside (pending c.args.self.now) (g.H.Host.meaning c.loop-s.host).outside c.loop-s.s-index
+    came_done (work c.args.program.now c.args.self.now.progress.store c.args.list.now) (solver_views (λ b. (goal.LpSolver-dyn g (b.vtable, b.value)).name b.value) (λ b. (goal.LpSolver-dyn g (b.vtable, b.value)).rule b.value) (λ b. (goal.LpSolver-dyn g (b.vtable, b.value)).paths b.value) c.args.solvers.now.items) c.args.keep (g.H.Host.meaning c.args.host.now).outside (pending c.args.self.now) (g.H.Host.meaning c.loop-s.host).outside c.loop-s.s-index
     (between (solver_views (λ b. (goal.LpSolver-dyn g (b.vtable, b.value)).name b.value) (λ b. (goal.LpSolver-dyn g (b.vtable, b.value)).rule b.value) (λ b. (goal.LpSolver-dyn g (b.vtable, b.value)).paths b.value) c.loop-s.solvers.items) c.loop-s.self) (pending c.loop-s.self) c.args.list.now
     c.loop-s.invariant.come c.loop-s.invariant.within_bound refl c.loop-s-test.false
 

@@ -14,11 +14,11 @@ use Rattle.gms_run.proofs.CallResults.{comes_err, writing_err, writing_memory}
 use Rattle.gms_run.proofs.Reports.{ends_answered}
 use Rattle.gms_run.proofs.execution.Run.to_end.Goals as goal
 
--- each answer is one of the linear program that was kept for it
+-- each answer is one of the linear program that was kept for it, where the programs were requested
 pub remark-requires : goal.remark-requires
-remark-requires g c =
+remark-requires g c requested =
     subst (λ (given : List (Answer Frac)). AreSomeAnswers frac_value frac_limit c.statements.new.self.solved.items given) (sym c.as_slice-given.ensures.value)
-    (ends_answered _ _ (solving (λ b. (goal.LpSolver-dyn g (b.vtable, b.value)).name b.value) (λ b. (goal.LpSolver-dyn g (b.vtable, b.value)).rule b.value) (λ b. (goal.LpSolver-dyn g (b.vtable, b.value)).paths b.value) c.args.solvers.now.items c.statements.new.solvers.items c.statements.new.self.progress.answers.items) _ _ c.in_ok-status.ensures.outside.ends)
+    (ends_answered c.args.request.ranges _ _ (solving (λ b. (goal.LpSolver-dyn g (b.vtable, b.value)).name b.value) (λ b. (goal.LpSolver-dyn g (b.vtable, b.value)).rule b.value) (λ b. (goal.LpSolver-dyn g (b.vtable, b.value)).paths b.value) c.args.solvers.now.items c.statements.new.solvers.items c.statements.new.self.progress.answers.items) _ _ c.in_ok-status.ensures.outside.ends requested)
 
 pub statements-requires-clause-can_execute : goal.statements-requires-clause-can_execute
 statements-requires-clause-can_execute g c = c.requires.can_execute
