@@ -72,15 +72,16 @@ def by_reference(top: str) -> Runner:
 
 
 def put(step: Step) -> None:
-    """Puts the files of a step into the current folder, and changes the save."""
+    """Puts the files of a step into the current folder, and a changed copy of the save."""
     for name, text in step.files.items():
         with open(name, 'wb') as stream:
             stream.write(text)
     if step.damage and os.path.exists(step.damage[0]):
-        with open(step.damage[0], 'rb') as stream:
+        name, copy, seed = step.damage
+        with open(name, 'rb') as stream:
             text = stream.read()
-        with open(step.damage[0], 'wb') as stream:
-            stream.write(damaged(text, step.damage[1]))
+        with open(copy, 'wb') as stream:
+            stream.write(damaged(text, seed))
 
 
 def found() -> dict[str, bytes]:

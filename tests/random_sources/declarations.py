@@ -2,7 +2,7 @@
 from typing import Optional
 
 from tests.random_sources.draw import Draw
-from tests.random_sources.layout import digits, label, number
+from tests.random_sources.layout import KEYWORDS, digits, label, number
 from tests.random_sources.world import Domain, Symbol, World
 
 WORDS = ['north', 'south', 'east', 'west', 'new-york', 'chicago', 'San Jose', 'jan', 'feb', 'mar', 'a', 'b', 'c', 'x1', 'y', '1990', '7',
@@ -276,6 +276,9 @@ def table(world: World) -> Optional[str]:
     heads = [it[0] for it in tuples_over(world, domain[-1:])]
     if not rows or not heads:
         return None
+    if len(domain) > 2 and domain[0] is None:
+        # A word that begins a statement is a label before a dot.
+        rows[0] = (draw.pick([it for it in sorted(KEYWORDS) if it not in world.order]),) + rows[0][1:]
     symbol = Symbol(world.fresh(draw.pick(['d', 'dist', 'yield'])), 'parameter', domain)
     draw.note('table')
     lines = ['%s %s%s%s' % (draw.cased('table'), symbol.name, domain_text(draw, domain).replace('\n', ''), text(draw))]

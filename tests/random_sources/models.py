@@ -113,12 +113,33 @@ def again(draw: Draw, names: list[str], rows: list[str]) -> str:
     if draw.chance(0.4):
         text += '\ndisplay z.l, %s.%s, %s.m, m.modelstat, m.solvestat;' % (draw.pick(names), draw.pick(['l', 'm', 'lo', 'up']), draw.pick(rows))
     while draw.chance(0.35):
-        text += '\n' + draw.pick(['', '%s.fx = %s.l;' % ((draw.pick(names),) * 2), '%s.up = z.l/2;' % draw.pick(names), 'z.l = 1/3;'])
+        text += '\n' + draw.pick(['', '%s.fx = %s.l;' % ((draw.pick(names),) * 2), '%s.up = z.l/2;' % draw.pick(names), 'z.l = 1/3;', '%s.m = 7/2;' % draw.pick(names)])
         text += bounds(draw, names) + settings(draw) + solve(draw, 'm', 'z')
         text += '\ndisplay z.m, %s.m, %s.m, %s.l;' % (draw.pick(names), draw.pick(rows), draw.pick(rows))
     if draw.chance(0.1):
         text += '\nabort$(m.modelstat <> 1) "no plan", m.modelstat;'
     return text
+
+
+# Solves that end without an optimum: interrupted in phase 2, unbounded, interrupted in phase 1,
+# infeasible by rows and by bounds, refused.
+STOPPED = ['option iterlim = 0; solve p using lp maximizing z;', 'solve f using lp maximizing z;', 'option iterlim = 0; solve m using lp maximizing z;',
+           'x.lo = 10; solve m using lp maximizing z;', 'x.lo = 3; x.up = 2; solve m using lp maximizing z;', 'x.lo = 1.6e38; solve m using lp maximizing z;']
+
+
+def stopped(draw: Draw) -> str:
+    """A solve with an optimum, one without, and a display of the marginals."""
+    text = 'positive variables x, y; variable z;\nequations obj, r1, r2, r3;\nobj.. z =e= %s*x + %s*y;\n' % (coefficient(draw), coefficient(draw))
+    text += 'r1.. x + %d*y =l= %d;\nr2.. %d*x + y =l= %d;\nr3.. x + y =g= 1;\n' % (
+        draw.between(1, 3), draw.between(4, 9), draw.between(2, 4), draw.between(4, 9))
+    text += 'models m /all/, p /obj, r1, r2/, f /obj, r3/;\n'
+    if draw.chance(0.3):
+        text += 'option lp = %s;\n' % draw.pick(['dantzig', 'steepest', 'any'])
+    text += 'solve m using lp maximizing z;\n'
+    if draw.chance(0.5):
+        text += '%s.m = %s; z.m = 1/3;\n' % (draw.pick('xy'), coefficient(draw))
+    shown = 'display x.m, y.m, z.m, obj.m, r1.m, r3.m, z.l, m.modelstat;'
+    return text + draw.pick(STOPPED) + '\n' + shown + draw.weighted((3, ''), (1, '\nx.lo = 0; x.up = inf; option iterlim = 9;\nsolve m using lp maximizing z;\n' + shown))
 
 
 def stalling(draw: Draw) -> str:
@@ -306,4 +327,4 @@ def any_model(draw: Draw) -> str:
     """A source of one of these shapes."""
     return draw.call((9, lambda: small(draw)), (3, lambda: small(draw, is_degenerate=True)), (4, lambda: small(draw, 0.12)),
                      (1, lambda: small(draw, 0.4)), (3, lambda: refused(draw, draw.between(0, 99))), (2, lambda: stalling(draw)), (2, lambda: first_phase_stall(draw)), (1, lambda: gain_after_turning(draw)),
-                     (3, lambda: transport(draw)), (3, lambda: plan(draw)))
+                     (3, lambda: transport(draw)), (3, lambda: plan(draw)), (3, lambda: stopped(draw)))

@@ -87,5 +87,12 @@ MISTAKES = [Mistake(*it) for it in [
     ('expression_checks.py', "'/': has_here", "'/': has and has_here"),
     ('symbols.py', 'first < second for first, second', 'first <= second + 1 for first, second'),
     ('saves.py', 'if symbol.name not in dynamic and members != set(symbol.data):', 'if members is None:'),
+    ('saves.py', 'other_than(0, read_value(*rest))', 'read_value(*rest)'),
+    ('saves.py', 'other_than(first_entry(symbol), read_entry(rest))', 'read_entry(rest)'),
+    ('saves.py', 'if count(value) > MOST_OF_OPTION[word]:', 'if count(value) > 2 ** 31 - 1:'),
+    ('saves.py', 'if SOLVER_STATUS_OF.get(model) != solver:', 'if model not in SOLVER_STATUS_OF:'),
+    ('saves.py', 'or position is not None and label not in position.labels:', 'or position is not None and not position.labels:'),
+    ('saves.py', 'if label >= len(state.tree.labels.texts)', 'if label >= 65_536'),
+    ('saves.py', 'if not all(is_possible(suffix, value)', "if not all(suffix in ('lo', 'up') or is_possible(suffix, value)"),
     ('exact.py', 'if denominator and is_within(numerator, denominator) else None', 'if denominator else None'),
 ]]

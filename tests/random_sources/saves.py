@@ -10,11 +10,17 @@ ENDS = {b'set': 1, b'parameter': 1, b'variable': 4, b'equation': 4}
 LIMIT = 2 ** 127 - 1
 # Numbers within the limit and over it, and what is no number of a save.
 VALUES = [b'%d' % LIMIT, b'-%d' % LIMIT, b'1/%d' % LIMIT, b'%d' % (LIMIT + 1), b'-%d' % (LIMIT + 1), b'1/%d' % (LIMIT + 1), b'%d/3' % (LIMIT + 1),
-          b'9' * 39, b'1' + b'0' * 39, b'3/6', b'5/0', b'7/2']
+          b'9' * 39, b'1' + b'0' * 39, b'3/6', b'5/0', b'7/2', b'0', b'+INF', b'-INF', b'NA']
+MOST = 2 ** 31 - 1
+# The place of an option in the line `settings`, and a number that is at its limit or over it.
+SETTINGS = [(4, 9), (1, MOST + 1), (2, MOST + 1), (3, MOST + 1), (4, 8), (1, MOST), (2, MOST), (3, MOST), (4, 0)]
+STATUSES = {'model': [0, 1, 2, 3, 4, 6, 7, 13], 'solver': [0, 1, 2, 4]}
+# What an element of a variable or an equation has that is not listed.
+ABSENT = {b'variable': [b'0 +INF 0 0', b'-INF +INF 0 0', b'-INF 0 0 0'], b'equation': [b'-INF +INF 0 0']}
 
 
 def damaged(text: bytes, seed: int) -> bytes:
-    """The save with one change that the seed draws."""
+    """The save with one change. Seeds go through the ways of changing it in turn."""
     draw = Draw(seed)
     lines = text.split(b'\n')
     ways = [lambda: line_left_out(draw, lines), lambda: row_changed(draw, lines, True), lambda: number_changed(draw, text),
@@ -23,7 +29,9 @@ def damaged(text: bytes, seed: int) -> bytes:
             lambda: value_changed(draw, lines), lambda: text[:draw.between(0, len(text))], lambda: row_changed(draw, lines, False),
             lambda: line_twice(draw, lines), lambda: row_changed(draw, lines, True), lambda: number_changed(draw, text),
             lambda: solver_changed(draw, text, draw.pick(SOLVERS)), lambda: value_changed(draw, lines), lambda: word_changed(draw, text),
-            lambda: row_changed(draw, lines, False), lambda: text + draw.pick([b' ', b'\n', b'end\n', b'x'])]
+            lambda: row_changed(draw, lines, False), lambda: text + draw.pick([b' ', b'\n', b'end\n', b'x']),
+            lambda: setting_changed(lines, seed // len(ways)), lambda: statuses_changed(draw, lines), lambda: absent_listed(draw, lines, [b'parameter']),
+            lambda: absent_listed(draw, lines, [b'variable', b'equation'])]
     return ways[seed % len(ways)]()
 
 
@@ -51,11 +59,51 @@ def lines_exchanged(draw: Draw, lines: list[bytes]) -> bytes:
     return b'\n'.join(lines)
 
 
+def settings_at(lines: list[bytes]) -> int:
+    """The place of the line `settings`; the source is before it."""
+    return max((place for place, line in enumerate(lines) if line.startswith(b'settings ')), default=0)
+
+
+def setting_changed(lines: list[bytes], turn: int) -> bytes:
+    """A number of an option, at its limit or over it, in turn."""
+    place = settings_at(lines)
+    words = lines[place].split(b' ')
+    option, number = SETTINGS[turn % len(SETTINGS)]
+    words[min(option, len(words) - 1)] = b'%d' % number
+    lines[place] = b' '.join(words)
+    return b'\n'.join(lines)
+
+
+def statuses_changed(draw: Draw, lines: list[bytes]) -> bytes:
+    """The statuses of a model, which may not go together."""
+    models = [place for place, line in enumerate(lines) if place > settings_at(lines) and line.startswith(b'model ')]
+    if not models:
+        return word_changed(draw, b'\n'.join(lines))
+    place = draw.pick(models)
+    name = lines[place].split(b' ')[1]
+    lines[place] = b'model %s %d %d' % (name, draw.pick(STATUSES['model']), draw.pick(STATUSES['solver']))
+    return b'\n'.join(lines)
+
+
 def parts(lines: list[bytes]) -> list[tuple[bytes, int, int]]:
     """The kind of each name that has rows, and where these begin and end."""
-    after = max((place for place, line in enumerate(lines) if line.startswith(b'settings ')), default=0)
+    after = settings_at(lines)
     found = [(place, PART.fullmatch(line)) for place, line in enumerate(lines) if place > after]
     return [(it.group(1), place + 1, place + 1 + int(it.group(2))) for place, it in found if it and int(it.group(2))]
+
+
+def absent_listed(draw: Draw, lines: list[bytes], kinds: list[bytes]) -> bytes:
+    """A row of a name of these kinds, with what is not listed in a save: 0, or the values at the
+    declaration.
+    """
+    found = [it for it in parts(lines) if it[0] in kinds]
+    if not found:
+        return value_changed(draw, lines)
+    kind, start, end = draw.pick(found)
+    place = draw.between(start, end - 1)
+    labels = lines[place].split(b' ')[:-ENDS[kind]]
+    lines[place] = b' '.join(labels + [draw.pick(ABSENT.get(kind, [b'0']))])
+    return b'\n'.join(lines)
 
 
 def row_changed(draw: Draw, lines: list[bytes], is_of_set: bool) -> bytes:
@@ -80,7 +128,7 @@ def row_changed(draw: Draw, lines: list[bytes], is_of_set: bool) -> bytes:
 def other_labels(draw: Draw, row: list[bytes], size: int) -> list[bytes]:
     """The row with another label at one of its n positions."""
     place = draw.between(0, max(0, size - 1))
-    return [b'%d' % max(0, int(it) + draw.pick([-1, 1, 1, 2, 65535])) if at == place and at < size else it for at, it in enumerate(row)]
+    return [b'%d' % max(0, int(it) + draw.pick([-1, 1, 2, 65535])) if at == place and at < size else it for at, it in enumerate(row)]
 
 
 def value_changed(draw: Draw, lines: list[bytes]) -> bytes:

@@ -10,12 +10,12 @@ from tests.random_sources.world import World
 
 @dataclass
 class Step:
-    """The files that are put there, the seed of a change of a save, if any, and the words of the
-    run.
+    """The words of the run, the files that are put there, and if a save is changed, its name, the
+    name of the changed copy, and the seed of the change.
     """
     words: list[str]
     files: dict[str, bytes] = field(default_factory=dict)
-    damage: Optional[tuple[str, int]] = None
+    damage: Optional[tuple[str, str, int]] = None
 
 
 @dataclass
@@ -77,17 +77,22 @@ def usual(kind: str) -> list[int]:
     return [it for it in tables[kind] if not (kind == 'source' and it in (5, 15) or kind == 'execution' and it in (7, 8, 9))]
 
 
-def resumed(draw: Draw, change: Optional[int] = None) -> Scenario:
-    """A source whose last state is saved, and one or two that restart from it, perhaps after the
-    change with this seed.
+# Changed copies of a save.
+CHANGES = 3
+
+
+def resumed(draw: Draw, turn: Optional[int] = None) -> Scenario:
+    """A source whose last state is saved, and one or two that restart from it. With a turn, runs
+    restart from three changed copies of the save before.
     """
     first, world = start(draw)
     steps = [Step(['--save', 's.sav', 'a.gms'], {'a.gms': encoded(first)})]
-    for place in range(draw.weighted((3, 1), (1, 2))):
-        name = 'bc'[place] + '.gms'
-        damage = ('s.sav', change) if change is not None and not place else None
+    sources = [encoded(restarting(draw, world)) for _ in range(draw.weighted((3, 1), (1, 2)))]
+    for change in [] if turn is None else range(CHANGES * turn, CHANGES * turn + CHANGES):
+        steps.append(Step(['--restart', 'u.sav', '--save', 't.sav', 'b.gms'], {'b.gms': sources[0]}, ('s.sav', 'u.sav', change)))
+    for name, source in zip(('b.gms', 'c.gms'), sources):
         words = ['--restart', 's.sav'] + draw.weighted((2, []), (3, ['--save', 's.sav']), (1, ['--save=t.sav']), (0.5, ['--ranges'])) + [name]
-        steps.append(Step(words, {name: encoded(restarting(draw, world))}, damage))
+        steps.append(Step(words, {name: source}))
     return Scenario(steps, draw.notes)
 
 
