@@ -21,7 +21,8 @@ CombinationsStayWithin most a b numbers others = (c : ℕ) → nat_abs a * nat_a
 
 -- At each column below n, `after` has a times the number of `before` less b times that of `others`;
 -- at later columns it has the number of `before`. The magnitudes of the changed numbers are at most
--- `most`, and `most` is at most any bound within which all products and differences stay.
+-- `most`, and `most` is at most any m for which `CombinationsStayWithin` holds: at each column the
+-- magnitudes of the two products together are at most m.
 pub record AreLessenedTo (a b : ℤ) (before others after : List ℤ) (n most : ℕ) : Type 0 where
   pub sized : length after ≡ length before
   pub done : (c : ℕ) → c < n → whole_at after c ≡ a *ℤ whole_at before c -ℤ b *ℤ whole_at others c
@@ -43,8 +44,8 @@ pub record AreNegatedTo (before after : List ℤ) (n : ℕ) : Type 0 where
   pub left : (c : ℕ) → n ≤ c → whole_at after c ≡ whole_at before c
 
 -- Each number of `after` is a times that of `before` less b times that of `others`. The magnitudes
--- are at most `most`, and `most` is at most any bound within which all products and differences
--- stay.
+-- are at most `most`, and `most` is at most any m for which `CombinationsStayWithin` holds: at each
+-- column the magnitudes of the two products together are at most m.
 pub record AreLessened (a b : ℤ) (before others after : List ℤ) (most : ℕ) : Type 0 where
   pub sized : length after ≡ length before
   pub numbers : (c : ℕ) → c < length before → whole_at after c ≡ a *ℤ whole_at before c -ℤ b *ℤ whole_at others c
@@ -68,9 +69,9 @@ pub record ArePlaces (numbers : List ℤ) (n : ℕ) (places : List ℕ) : Type 0
   pub all : (c : ℕ) → c < n → whole_at numbers c ≢ pos 0 → (i : ℕ) × (slice_get places i ≡ Some c)
 
 -- From the numbers at the first n of these columns b times the other list's number is subtracted;
--- all other numbers are unchanged. The magnitudes of all numbers are at most `most`, which is at
--- least `least` and at most any bound from `least` on within which all products and differences
--- stay.
+-- all other numbers are unchanged. The magnitudes of all numbers are at most `most`. `most` is at
+-- least `least`, and at most any m from `least` on for which `CombinationsStayWithin` holds: at
+-- each column the magnitudes of the number before and of the product together are at most m.
 pub record AreLessenedAt (b : ℤ) (before others after : List ℤ) (places : List ℕ) (n least most : ℕ) : Type 0 where
   pub sized : length after ≡ length before
   pub done : (i c : ℕ) → i < n → slice_get places i ≡ Some c → whole_at after c ≡ pos 1 *ℤ whole_at before c -ℤ b *ℤ whole_at others c
@@ -80,8 +81,9 @@ pub record AreLessenedAt (b : ℤ) (before others after : List ℤ) (places : Li
   pub small : (m : ℕ) → CombinationsStayWithin m (pos 1) b before others → least ≤ m → most ≤ m
 
 -- Each number of `after` is that of `before` less b times that of `others`. The magnitudes are at
--- most `most`, which is at least `least` and at most any bound from `least` on within which all
--- products and differences stay.
+-- most `most`. `most` is at least `least`, and at most any m from `least` on for which
+-- `CombinationsStayWithin` holds: at each column the magnitudes of the number before and of the
+-- product together are at most m.
 pub record AreLessenedFrom (least : ℕ) (b : ℤ) (before others after : List ℤ) (most : ℕ) : Type 0 where
   pub sized : length after ≡ length before
   pub numbers : (c : ℕ) → c < length before → whole_at after c ≡ pos 1 *ℤ whole_at before c -ℤ b *ℤ whole_at others c

@@ -5,12 +5,14 @@ use Rattle.std.specs.List.{range_with_len}
 use Rattle.lp_integers.specs.declared.few.Word.{Word}
 use Rattle.lp_integers.specs.Lines.{whole_at}
 
--- the integer that these words give for a place of the list: 0 if no word has the place
+-- A word is a place of a list, with the integer there. This is the integer of the first of these
+-- words with this place; 0 if no word has the place.
 abbrev pub stored_number : List Word → ℕ → ℤ
 stored_number [] place = pos 0
 stored_number (w ∷ ws) place = if w.place == place then w.number else stored_number ws place
 
--- the list of n integers that these words represent
+-- the list of n integers; at each index it has that of the first word with this place, or 0 if no
+-- word has the place
 abbrev pub spread_out : ℕ → List Word → List ℤ
 spread_out n words = map (stored_number words) (range_with_len 0 n)
 
@@ -40,18 +42,20 @@ abbrev pub WordsStartAt : ℕ → List Word → Type 0
 WordsStartAt place [] = ⊥
 WordsStartAt place (w ∷ ws) = w.place ≡ place
 
--- the lesser of the places of two lists' first words; None if both lists are empty
+-- the lesser of the places of two lists' first words; if one list is empty, the place of the first
+-- word of the other; None if both lists are empty
 abbrev pub IsNextPlace : List Word → List Word → Option ℕ → Type 0
 IsNextPlace words others None = (words ≡ []) × (others ≡ [])
 IsNextPlace words others (Some place) = WordsStartFrom place words × WordsStartFrom place others × (WordsStartAt place words ⊎ WordsStartAt place others)
 
--- the first word is at the place and has this integer, and `rest` are the other words; or it is
--- not, the integer is 0, and `rest` are all words
+-- the first word is at the place and has this integer, and `rest` are the other words; or no first
+-- word is at the place, the integer is 0, and `rest` are all words
 abbrev pub SplitsWordAt : List Word → ℕ → ℤ → List Word → Type 0
 SplitsWordAt words place number rest =
     (words ≡ record { place = place; number = number } ∷ rest) ⊎ ((rest ≡ words) × ¬ (WordsStartAt place words) × (number ≡ pos 0))
 
--- the words `now` are those `before` and a last word of this place and integer, if that is not 0
+-- `now` has the words `before`, followed by a word of this place and integer; if the integer is 0,
+-- `now` has the words `before` only
 abbrev pub AppendsUnlessZero : ℕ → ℤ → List Word → List Word → Type 0
 AppendsUnlessZero place number before now =
     ((number ≢ pos 0) × (now ≡ before ++ record { place = place; number = number } ∷ [])) ⊎ ((number ≡ pos 0) × (now ≡ before))
@@ -61,8 +65,9 @@ AppendsUnlessZero place number before now =
 abbrev pub HasWordsBound : ℕ → ℤ → ℤ → List Word → List Word → Type 0
 HasWordsBound most a b words others = (c : ℕ) → nat_abs a * nat_abs (stored_number words c) + nat_abs b * nat_abs (stored_number others c) ≤ most
 
--- The words `made` are below place `high`, and have at each place a times the integer of `words`
--- less b times that of `others`.
+-- The words `made` ascend by place, below place `high`, and no integer of them is 0 or has a
+-- magnitude above `most`. At each place they give a times the integer of `words` less b times that
+-- of `others`.
 pub record AreDifferencesOf (most high : ℕ) (a b : ℤ) (words others made : List Word) : Type 0 where
   pub are_words : AreWords most 0 high made
   pub numbers : (c : ℕ) → stored_number made c ≡ a *ℤ stored_number words c -ℤ b *ℤ stored_number others c

@@ -2,6 +2,7 @@
 ghost use Rattle.std.specs.Prelude.{◌≡◌, ◌⊎◌, ℕ, ◌+◌, ◌*◌, ◌<◌, ◌≤◌, ◌^◌, ◌-◌, pos, ◌-ℤ◌, ◌*ℤ◌, neg_ℤ, nat_abs, length, IfOk};
 ghost use Rattle.std.specs.Int.{◌∣◌};
 ghost use Rattle.lp_integers.specs.Lines.{whole_at, AreWithin, AreDivided, CombinationsStayWithin, AreLessened, ArePlaces, AreLessenedFrom, AreOver, AreNegated};
+ghost use Rattle.lp_integers.specs.Words.{IsFirstAbove, IsGreatestAbove};
 
 use crate::divisor::Divisor;
 use std::alloc::{AllocError, Global};
@@ -70,6 +71,48 @@ pub(crate) fn greatest(numbers: &[i64]) -> u64
         most = greater(most, *n);
     }
     most
+}
+
+/// The distinct places of the numbers other than 0. The error is out of memory.
+pub(crate) fn places(alloc: Global, numbers: &[i64]) -> Result<Vec<usize>, AllocError>
+    ensures { IfOk result (λ places. ArePlaces numbers.now (length numbers.now) places.items) }
+{
+    let mut places = Vec::new(alloc);
+    for place in 0..numbers.len() {
+        if numbers[place] != 0 {
+            places.push(place)?;
+        }
+    }
+    Ok(places)
+}
+
+/// The least place from `start` on whose number is above 0; `None` if there is none.
+pub(crate) fn first_above(numbers: &[i64], start: usize) -> Option<usize>
+    ensures { IsFirstAbove numbers.now start result }
+{
+    for place in start..numbers.len() {
+        if numbers[place] > 0 {
+            return Some(place);
+        }
+    }
+    None
+}
+
+/// The place from `start` on of the greatest number, if that is above 0, and of equal ones the
+/// least; `None` if no number from there on is above 0.
+pub(crate) fn greatest_above(numbers: &[i64], start: usize) -> Option<usize>
+    ensures { IsGreatestAbove numbers.now start result }
+{
+    let mut best = None;
+    let mut most = 0;
+    for place in start..numbers.len() {
+        let number = numbers[place];
+        if number > most {
+            most = number;
+            best = Some(place);
+        }
+    }
+    best
 }
 
 /// Replaces each number with `a` times it less `b` times the other list's number, and answers a

@@ -15,8 +15,9 @@ use std::marker::Model;
 /// The least magnitude that does not fit in one word with a sign.
 const HALF: u128 = 1 << 63;
 
-/// A list of integers. Each takes one word while all are small, else each takes two. If at most one
-/// in 16 is not 0, the list stores only those that are not 0. The way of storage changes no result.
+/// A list of integers. Each takes one word of 64 bits, or each takes two; one suffices if no
+/// magnitude has more than 63 bits. If at most one in 16 is not 0, the list may store only those
+/// that are not 0. The way of storage changes no result.
 #[derive(Drop)]
 pub struct Numbers {
     kept: Kept,
@@ -197,6 +198,9 @@ impl Numbers {
         if let Kept::Few(list) = &self.kept {
             return list.first_above(start);
         }
+        if let Kept::Narrow(list) = &self.kept {
+            return narrow::first_above(list.as_slice(), start);
+        }
         for place in start..self.len() {
             if self.at(place) > 0 {
                 return Some(place);
@@ -212,6 +216,9 @@ impl Numbers {
     {
         if let Kept::Few(list) = &self.kept {
             return list.greatest_above(start);
+        }
+        if let Kept::Narrow(list) = &self.kept {
+            return narrow::greatest_above(list.as_slice(), start);
         }
         let mut best = None;
         let mut most = 0;
@@ -232,6 +239,9 @@ impl Numbers {
     {
         if let Kept::Few(list) = &self.kept {
             return list.places(alloc);
+        }
+        if let Kept::Narrow(list) = &self.kept {
+            return narrow::places(alloc, list.as_slice());
         }
         let mut places = Vec::new(alloc);
         for place in 0..self.len() {
@@ -341,9 +351,10 @@ impl Numbers {
         }
     }
 
-    /// Stores only the numbers other than 0, if all are stored, in one word each, and `count`, the
-    /// number of those that are not 0, is at most one in 16 of the length. The list stays. The
-    /// error is out of memory.
+    /// Stores only the numbers other than 0, if the list stores all its numbers, in one word each,
+    /// and `count` is at most one in 16 of the length; else the way of storage is unchanged.
+    /// `count` should be how many numbers are not 0. The numbers of the list are unchanged, unless
+    /// memory runs out, which is the only error.
     pub fn spare_zeros(&mut self, alloc: Global, count: usize) -> Result<(), AllocError>
         ensures { IfOk result (λ _. self.new ≡ self.old) }
     {
@@ -466,12 +477,13 @@ impl Numbers {
 
     /// Replaces each number x with x less `b` times y, where y is the number of `others` at the
     /// same position. Only the numbers at `places` change, the positions at which `others` is not
-    /// 0. All this is done only if one word suffices for each number; else nothing changes. `least`
-    /// bounds the magnitudes before. At each position the magnitudes of x and of `b` times y
-    /// together are at most `within_bound`.
+    /// 0. `least` has to bound the magnitudes before. At each position the magnitudes of x and of
+    /// `b` times y together have to be at most `within_bound`.
     ///
-    /// Returns a bound of the magnitudes after the change, which is at least `least`; `None` if the
-    /// numbers are unchanged.
+    /// Returns a bound of all magnitudes of this list after the change, which is at least `least`.
+    /// Returns `None`, and changes nothing, unless this list stores all its numbers in one word
+    /// each, `others` stores its numbers so or only those other than 0, and `least`, `within_bound`
+    /// and the magnitude of `b` are below 2^63.
     pub fn lessen_at(
         &mut self,
         b: i128,
