@@ -31,8 +31,8 @@ abbrev pub ◌then_step◌ : Outcome → (Extended → Outcome) → Outcome
 (Ok x) then_step next = next x
 (Err fault) then_step next = Err fault
 
--- the exact number x if the Bool, which says whether x fits under the limit, is true; else the
--- fault `Limit`
+-- the exact number x if the Bool is true, else the fault `Limit`; the Bool says whether x stays
+-- within the limit on numerators and denominators
 abbrev pub number_if : Bool → Number → Outcome
 number_if true x = Ok (number x)
 number_if false x = Err Limit
@@ -81,7 +81,8 @@ infinity_of (negsuc n) = Ok minus_infinity
 -- ---- sums
 
 -- the sum under the limit: NA if one of both is NA; `Undefined` for two opposite infinities; else
--- an infinity if one of both is; and for two numbers `Limit` if their sum does not fit
+-- an infinity if one of both is; and for two numbers their sum, or `Limit` if an intermediate
+-- number of the sum exceeds the limit in magnitude (`sum_fits`)
 unfoldable pub sum : ℕ → Extended → Extended → Outcome
 sum limit (number x) (number y) = number_if (sum_fits limit x y) (x +ℚ y)
 sum limit na y = Ok na
@@ -99,8 +100,8 @@ difference limit x y = sum limit x (negated y)
 -- ---- products
 
 -- the product under the limit: NA if one of both is NA; if one is an infinity, that with the
--- product of the two signs, and `Undefined` if the other is 0; for two numbers `Limit` if their
--- product does not fit
+-- product of the two signs, and `Undefined` if the other is 0; for two numbers their product, or
+-- `Limit` if its numerator or its denominator exceeds the limit in magnitude
 unfoldable pub product : ℕ → Extended → Extended → Outcome
 product limit (number x) (number y) = number_if (fits limit (x *ℚ y)) (x *ℚ y)
 product limit na y = Ok na
@@ -109,8 +110,8 @@ product limit x y = infinity_of (direction x *ℤ direction y)
 
 -- the quotient of two values, of which the second is not the number 0: NA if either is NA; 0 for a
 -- number over an infinity; for an infinity over a number the infinity with the product of the two
--- signs; `Undefined` for an infinity over an infinity; for two numbers `Limit` if their quotient
--- does not fit
+-- signs; `Undefined` for an infinity over an infinity; for two numbers their quotient, or `Limit`
+-- if its numerator or its denominator exceeds the limit in magnitude
 abbrev pub divided : ℕ → Extended → Extended → Outcome
 divided limit (number x) (number y) = number_if (fits limit (x /ℚ y)) (x /ℚ y)
 divided limit na y = Ok na
@@ -165,7 +166,8 @@ exponent_of y = None
 
 -- x to the power of an integer n: 1 if n is 0, even for NA; else NA for NA; the fault `Divide` for
 -- 0 and n below 0; 0 for an infinity and n below 0; for an infinity and n above 0 an infinity,
--- which is negative only if x is and n is odd; `Limit` for a number whose power does not fit
+-- which is negative only if x is and n is odd; else the power of a number, or `Limit` if its
+-- numerator or its denominator exceeds the limit in magnitude
 abbrev pub raised : ℕ → Extended → ℤ → Outcome
 raised limit x (pos zero) = Ok (number (whole (pos 1)))
 raised limit na n = Ok na

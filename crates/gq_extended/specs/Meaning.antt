@@ -6,15 +6,16 @@ use Rattle.gq_extended.specs.declared.extended.Ext.{Ext}
 use Rattle.gq_extended.specs.declared.extended.Ext.TheVariants.{Number, PlusInf, MinusInf, Na}
 use Rattle.gq_extended.specs.declared.fault.ExtendedFault.{ExtendedFault}
 
--- the extended number that a value of `Ext` means, where `value` gives the numbers of the field's
--- values
+-- the extended number that a value of `Ext F` means, where `value` gives the number that a value of
+-- F means
 abbrev pub extended : {F : Type 0} → (F → Number.Number) → Ext F → Extended
 extended value (Number x) = number (value x)
 extended value PlusInf = plus_infinity
 extended value MinusInf = minus_infinity
 extended value Na = na
 
--- the result of a call as an outcome: the extended number that its value means, or its fault
+-- the result of a call as an outcome: the extended number that its `Ext F` means, where `value`
+-- gives the number that a value of F means; or the fault of the call
 abbrev pub outcome : {F : Type 0} → (F → Number.Number) → Result (Ext F) ExtendedFault → Outcome
 outcome value (Ok x) = Ok (extended value x)
 outcome value (Err fault) = Err fault

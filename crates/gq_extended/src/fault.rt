@@ -1,19 +1,19 @@
-//! What a step answers in place of a value.
+//! Why an operation on extended numbers has no result.
 ghost use Rattle.std.specs.Prelude.{◌≡◌};
 
 use gq_field::Limit;
 use thiserror::Error;
 
-/// The fault of a step on extended numbers.
+/// Why an operation on extended numbers has no result.
 #[derive(Clone, Copy, Debug, PartialEq, Eq, Error)]
 pub enum ExtendedFault {
-    /// A number of the step exceeds the field's limit.
+    /// The result, or a number that is computed on the way to it, exceeds the field's limit.
     #[error("beyond the field's limit")]
     Limit,
     /// The divisor is 0, or 0 is raised to a negative power.
     #[error("division by zero")]
     Divide,
-    /// The step is undefined, such as an infinity minus itself or times 0.
+    /// The operation is undefined, such as an infinity minus itself or times 0.
     #[error("an undefined step")]
     Undefined,
     /// The exponent is infinite or NA, is not whole, or exceeds 1,024 in magnitude.

@@ -8,10 +8,14 @@ ghost use Rattle.gq_extended.specs.Extended.{Extended, number, plus_infinity, mi
 ghost use Rattle.gq_extended.specs.declared.fault.ExtendedFault.TheVariants.{Divide};
 ghost use Rattle.gq_extended.specs.ExtendedOrder.{equals, is_less, is_at_most, lesser, greater};
 
-/// On numbers alone the steps are those of exact arithmetic. A product, a quotient or a power is
-/// the exact number if that number fits under the limit; a sum or a difference is the exact number
-/// if its intermediate numbers fit too. Divisors and bases are other than 0. The other results are
-/// always exact.
+/// Without infinities and NA, the operations are those of exact arithmetic. A product, a quotient
+/// or a power is the exact number if its numerator and denominator are at most the limit in
+/// magnitude, and else the fault `Limit`. A sum or a difference is the exact number if its
+/// intermediate numbers are at most the limit too, and else `Limit`. The other results are always
+/// exact.
+///
+/// The law on quotients is only about divisors other than 0. The law on powers is only about bases
+/// other than 0, integer exponents of at most 1,024 in magnitude, and limits of at least 1.
 pub fn number_laws()
     ensures sum { (limit : ℕ) (x y : Number) →
         sum limit (number x) (number y) ≡ number_if (sum_fits limit x y) (x +ℚ y) }
@@ -40,9 +44,9 @@ pub fn number_laws()
 {}
 
 /// Sums and products do not depend on the order of their operands, faults included. A difference is
-/// the sum with the negated value, and a value negated twice is the value. Nothing is divided by 0,
-/// not even NA. A sum, a difference and a product are NA if an operand is, and so is NA over a
-/// divisor other than 0.
+/// the sum with the negated value, and a value negated twice is the value. A quotient whose divisor
+/// is 0 is the fault `Divide`, even if NA is divided. A sum, a difference and a product are NA if
+/// an operand is, and so is NA over a divisor other than 0.
 pub fn step_laws()
     ensures sum_commutes { (limit : ℕ) (x y : Extended) → sum limit x y ≡ sum limit y x }
     ensures product_commutes { (limit : ℕ) (x y : Extended) →

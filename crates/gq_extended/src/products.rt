@@ -23,7 +23,8 @@ fn infinity<F: ExactField>(sign: i8, other: i8) -> Result<Ext<F>, ExtendedFault>
 impl<F: ExactField> Ext<F> {
     /// The product of the value and `other`; NA if either is NA. `Limit` exactly if both are
     /// numbers and their product in the field is `Limit`, and `Undefined` exactly for an infinity
-    /// times 0.
+    /// times 0. Any other product with an infinity is the infinity whose sign is the product of the
+    /// two signs.
     #[tactic(auto, unfolding(crate::specs::Extended::product))]
     pub fn mul(self, other: Ext<F>) -> Result<Ext<F>, ExtendedFault>
         ensures { outcome F.value result
@@ -52,8 +53,10 @@ impl<F: ExactField> Ext<F> {
     }
 
     /// The value divided by `other`. `Divide` exactly if `other` is the number 0, whatever the
-    /// value is; else `Limit` exactly if both are numbers and their quotient in the field is
-    /// `Limit`, and `Undefined` exactly for an infinity over an infinity.
+    /// value is; else NA if either is NA, `Limit` exactly if both are numbers and their quotient in
+    /// the field is `Limit`, and `Undefined` exactly for an infinity over an infinity. A number
+    /// over an infinity is 0, and an infinity over a number is the infinity whose sign is the
+    /// product of the two signs.
     #[tactic(auto, unfolding(crate::specs::Extended::quotient))]
     pub fn div(self, other: Ext<F>) -> Result<Ext<F>, ExtendedFault>
         ensures { outcome F.value result

@@ -22,7 +22,8 @@ impl<F: ExactField> Ext<F> {
     }
 
     /// The sum of the value and `other`; NA if either is NA. `Limit` exactly if both are numbers
-    /// and their sum in the field is `Limit`, and `Undefined` exactly for two opposite infinities.
+    /// and their sum does not fit under the field's limit, where intermediate numbers count too;
+    /// and `Undefined` exactly for two opposite infinities.
     #[tactic(auto, unfolding(crate::specs::Extended::sum))]
     pub fn add(self, other: Ext<F>) -> Result<Ext<F>, ExtendedFault>
         ensures { outcome F.value result

@@ -18,7 +18,8 @@ range_of_bits bits least most =
     let high : 2 ^ bits ≤ 2 ^ 127 = pow-le-pow_right (omega arith) most in
     (omega arith, omega arith)
 
--- a fraction of `bits` bits fits under the limit 2^bits - 1
+-- a reduced fraction n/d with n and d below 2^bits in magnitude fits under the limit 2^bits - 1:
+-- n and d are at most this limit in magnitude
 pub parts_within : (bits : ℕ) (n : ℤ) (d : ℕ) (parts : IsFraction bits n d) → fits (2 ^ bits - 1) (number_of_parts n d parts) ≡ true
 unfolding number_of_parts
 parts_within bits n d parts = grind (arith, nat_tests)
@@ -26,8 +27,8 @@ parts_within bits n d parts = grind (arith, nat_tests)
 IsFraction-prop : (bits : ℕ) (n : ℤ) (d : ℕ) → IsProp (IsFraction bits n d)
 IsFraction-prop bits n d = hlevel props
 
--- two values that `make` builds of fractions of `bits` bits are equal if the fractions are one
--- number
+-- `make` builds a value from a reduced fraction whose numerator and denominator are below 2^bits in
+-- magnitude; the values that it builds from n/c and m/d are equal if these are one number
 pub same_parts : {F : Type 0} (bits : ℕ) (make : (n : ℤ) (d : ℕ) → IsFraction bits n d → F) (n m : ℤ) (c d : ℕ) (p : IsFraction bits n c) (q : IsFraction bits m d) → number_of_parts n c p ≡ number_of_parts m d q → make n c p ≡ make m d q
 unfolding number_of_parts
 same_parts {F} bits make n m c d p q e =

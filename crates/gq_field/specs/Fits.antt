@@ -7,9 +7,9 @@ use Rattle.gq_field.specs.declared.field.Limit.{Limit}
 abbrev pub fits : ℕ → Number → Bool
 fits limit x = nat_le (nat_abs x.numerator) limit && nat_le x.denominator limit
 
--- Whether the sum of a/b and c/d fits: each intermediate number is at most the limit in magnitude.
--- With g the greatest common divisor of b and d, these are u = a (d/g), v = c (b/g), their sum t,
--- and the denominator (b/g) (d/h), where h is the greatest common divisor of t and g.
+-- Whether the sum of x = a/b and y = c/d fits: each intermediate number is at most the limit in
+-- magnitude. With g the greatest common divisor of b and d, these are u = a (d/g), v = c (b/g),
+-- their sum t, and the denominator (b/g) (d/h), where h is the greatest common divisor of t and g.
 abbrev pub sum_fits : ℕ → Number → Number → Bool
 sum_fits limit x y =
     let g : ℕ = gcd x.denominator y.denominator in
@@ -19,8 +19,8 @@ sum_fits limit x y =
     let h : ℕ = gcd (nat_abs t) g in
     nat_le (nat_abs u) limit && nat_le (nat_abs v) limit && nat_le (nat_abs t) limit && nat_le (x.denominator / g * (y.denominator / h)) limit
 
--- what a step over a field answers: a value that means x if the test is true, and the fault `Limit`
--- if it is false; `value` gives the number that a value means
+-- the result of an operation that gives a value of F: a value that means x, and the test is true;
+-- or the fault `Limit`, and the test is false. `value` gives the number that a value of F means
 abbrev pub Answers : {F : Type 0} → (F → Number) → Result F Limit → Bool → Number → Type 0
 Answers value (Ok y) test x = (test ≡ true) × (value y ≡ x)
 Answers value (Err e) test x = test ≡ false

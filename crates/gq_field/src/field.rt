@@ -22,8 +22,9 @@ pub struct Limit;
 /// Each value of the type means a number (`value`), whose numerator and denominator are those of
 /// its reduced fraction. An operation returns the exact number if it fits under the limit, and the
 /// error `Limit` exactly if it does not. A sum or a difference fits if each number that is computed
-/// on the way to it is at most the limit; any other result fits if its numerator and denominator
-/// are.
+/// on the way to it is at most the limit in magnitude: the two numerators over the least common
+/// denominator, their sum or difference, and the denominator of the reduced result. Any other
+/// result fits if its reduced numerator and denominator are at most the limit in magnitude.
 pub trait ExactField: Copy {
     ghost use Rattle.gq_field.specs.Fits.{fits, sum_fits, Answers};
     ghost use Rattle.gq_field.specs.Values.{fraction_value};

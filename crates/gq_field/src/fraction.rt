@@ -18,8 +18,8 @@ impl Fraction {
     ghost use Rattle.gq_number.specs.Number.{neg_ℚ, whole};
     ghost use Rattle.gq_field.specs.Values.{fraction_value, signed};
 
-    /// The fraction `numerator / denominator`. The two have no common factor, and both are below
-    /// 2^127 in magnitude.
+    /// The fraction `numerator / denominator`. The two have no common factor but 1, both are below
+    /// 2^127 in magnitude, and the denominator is above 0.
     #[inline(always)]
     pub fn new(numerator: i128, denominator: u128) -> Fraction
         requires reduced { IsReduced numerator denominator }

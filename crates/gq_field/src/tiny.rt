@@ -4,7 +4,7 @@ ghost use Rattle.gq_field.specs.Parts.{IsFraction};
 use crate::field::ExactField;
 use crate::fraction::Fraction;
 
-/// A fraction whose numerator and denominator are at most 127 in magnitude.
+/// A reduced fraction whose numerator and denominator are at most 127 in magnitude.
 #[derive(Clone, Copy, Debug, PartialEq, Eq)]
 pub struct Tiny {
     numerator: i8,

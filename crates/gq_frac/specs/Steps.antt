@@ -6,7 +6,8 @@ use Rattle.gq_field.specs.Values.{half_value}
 use Rattle.gq_frac.specs.declared.frac.Frac.{Frac}
 use Rattle.gq_frac.specs.Frac.{frac_value}
 
--- if the operation on numbers of 63 bits returns a number, then the operation on numbers of 127
--- bits returns the same number
+-- if `narrow`, the result of an operation on fractions whose numerators and denominators have at
+-- most 63 bits, is a number, then `wide`, that of the operation on those of at most 127 bits, is
+-- the same number
 abbrev pub KeepsAnswer : Result Half Limit → Result Frac Limit → Type 0
 KeepsAnswer narrow wide = IfOk narrow (λ h. IsOkAnd wide (λ f. frac_value f ≡ half_value h))

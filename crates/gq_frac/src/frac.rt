@@ -3,7 +3,7 @@ ghost use Rattle.gq_field.specs.Parts.{IsFraction};
 
 use gq_field::{ExactField, Fraction};
 
-/// A fraction whose numerator and denominator are at most 2^127 - 1 in magnitude.
+/// A reduced fraction whose numerator and denominator are at most 2^127 - 1 in magnitude.
 #[derive(Clone, Copy, Debug, PartialEq, Eq)]
 pub struct Frac {
     numerator: i128,

@@ -9,8 +9,9 @@ ghost use Rattle.gq_frac.specs.declared.frac.Frac.{Frac};
 ghost use Rattle.gq_frac.specs.Frac.{frac_limit, frac_value};
 ghost use Rattle.gq_frac.specs.Steps.{KeepsAnswer};
 
-/// A sum that fits in 63 bits fits in 127. So if `add` of two numbers as `Half` returns a number,
-/// `add` of the same two as `Frac` returns the same number.
+/// A sum fits in 63 bits if each number that is computed on the way to it has at most 63 bits. Then
+/// it fits in 127 bits too. So if `add` of two numbers as `Half` returns a number, `add` of the
+/// same two as `Frac` returns the same number.
 pub fn add_laws()
     ensures fits { (x y : Number) → sum_fits (2 ^ 63 - 1) x y ≡ true → sum_fits frac_limit x y ≡ true }
     ensures answers { (x y : Number) (narrow : Result Half Limit) (wide : Result Frac Limit) →
@@ -18,8 +19,9 @@ pub fn add_laws()
         Answers frac_value wide (sum_fits frac_limit x y) (x +ℚ y) → KeepsAnswer narrow wide }
 {}
 
-/// A difference that fits in 63 bits fits in 127. So if `sub` of two numbers as `Half` returns a
-/// number, `sub` of the same two as `Frac` returns the same number.
+/// A difference fits in 63 bits if each number that is computed on the way to it has at most 63
+/// bits. Then it fits in 127 bits too. So if `sub` of two numbers as `Half` returns a number, `sub`
+/// of the same two as `Frac` returns the same number.
 pub fn sub_laws()
     ensures fits { (x y : Number) →
         sum_fits (2 ^ 63 - 1) x (neg_ℚ y) ≡ true → sum_fits frac_limit x (neg_ℚ y) ≡ true }
@@ -29,8 +31,8 @@ pub fn sub_laws()
         KeepsAnswer narrow wide }
 {}
 
-/// A product that fits in 63 bits fits in 127. So if `mul` of two numbers as `Half` returns a
-/// number, `mul` of the same two as `Frac` returns the same number.
+/// A product whose reduced numerator and denominator fit in 63 bits fits in 127. So if `mul` of two
+/// numbers as `Half` returns a number, `mul` of the same two as `Frac` returns the same number.
 pub fn mul_laws()
     ensures fits { (x y : Number) → fits (2 ^ 63 - 1) (x *ℚ y) ≡ true → fits frac_limit (x *ℚ y) ≡ true }
     ensures answers { (x y : Number) (narrow : Result Half Limit) (wide : Result Frac Limit) →
@@ -38,8 +40,8 @@ pub fn mul_laws()
         Answers frac_value wide (fits frac_limit (x *ℚ y)) (x *ℚ y) → KeepsAnswer narrow wide }
 {}
 
-/// A quotient that fits in 63 bits fits in 127. So if `div` of two numbers as `Half` returns a
-/// number, `div` of the same two as `Frac` returns the same number.
+/// A quotient whose reduced numerator and denominator fit in 63 bits fits in 127. So if `div` of
+/// two numbers as `Half` returns a number, `div` of the same two as `Frac` returns the same number.
 pub fn div_laws()
     ensures fits { (x y : Number) → fits (2 ^ 63 - 1) (x /ℚ y) ≡ true → fits frac_limit (x /ℚ y) ≡ true }
     ensures answers { (x y : Number) (narrow : Result Half Limit) (wide : Result Frac Limit) →

@@ -76,7 +76,7 @@ abbrev pub quotient_down : ℤ → ℕ → ℤ
 quotient_down (pos n) d = pos (n / d)
 quotient_down (negsuc k) d = negsuc (k / d)
 
--- the whole number nearest to n over d, halves away from 0: 2 |n| + d over 2 d, without its
+-- the whole number nearest to n over d, halves away from 0: (2 |n| + d) / (2 d) without its
 -- fractional part, with the sign of n
 abbrev pub quotient_to_nearest : ℤ → ℕ → ℤ
 quotient_to_nearest (pos n) d = pos ((2 * n + d) / (2 * d))

@@ -7,8 +7,8 @@ ghost use Rattle.gq_number.specs.Order.{◌≤ℚ◌, ◌<ℚ◌};
 /// When numbers and ratios are equal: cross products decide it, a number is the ratio of its
 /// numerator and its denominator, and a reduced ratio keeps its two parts. As rational numbers,
 /// whole numbers have the same sums, products and order. The ratio of two whole numbers is their
-/// quotient, and a decimal literal is the ratio of its digits and a power of ten. Rationals as
-/// pairs: any algebra text.
+/// quotient. A decimal literal is the ratio of its digits and a power of ten, and a 0 after its
+/// last digit does not change it. Rationals as pairs: any algebra text.
 pub fn name_laws()
     ensures same_number { (x y : Number) → (x ≡ y) ↔
         (x.numerator *ℤ pos y.denominator ≡ y.numerator *ℤ pos x.denominator) }

@@ -3,7 +3,8 @@ use Rattle.std.specs.Prelude.{◌≡◌, ℕ, ◌+◌, ◌^◌, ◌<◌, ◌⊎�
 use Rattle.gq_number.specs.Number.{Number, whole, ratio, ◌+ℚ◌, ◌*ℚ◌, ◌/ℚ◌, neg_ℚ}
 use Rattle.gq_text.specs.Numeral.{AreDigits, spelled}
 
--- a decimal: the digits before its point, the digits after it, and its exponent
+-- a decimal: the digits before its point and the digits after it, both as bytes of a text, and its
+-- exponent of ten
 pub record Decimal : Type 0 where
   pub before : List ℕ
   pub following : List ℕ
@@ -52,7 +53,7 @@ pub record Spells (text : List ℕ) (d : Decimal) : Type 0 where
   pub pointed_is : IsPointed pointed d.before d.following
   pub power_is : IsExponent power d.exponent
 
--- the text is that of a decimal which means x
+-- the text is that of a decimal, which has no sign, and the decimal means x
 abbrev pub MeansNumber : List ℕ → Number → Type 0
 MeansNumber text x = (d : Decimal) × Spells text d × (x ≡ number_of d)
 

@@ -1,5 +1,5 @@
 -- The exact text of a number as it computes: the decimal digits of numerator and denominator.
-use Rattle.std.specs.Prelude.{ℕ, Bool, true, false, ◌+◌, ◌==◌, List, [], ◌++◌, codes, decimal, ℤ, pos, negsuc, neg_ℤ, if◌then◌else◌}
+use Rattle.std.specs.Prelude.{ℕ, ◌+◌, ◌==◌, List, [], ◌++◌, codes, decimal, ℤ, pos, negsuc, if◌then◌else◌}
 use Rattle.gq_number.specs.Number.{Number}
 
 -- the decimal digits of an integer, after `-` if it is below 0

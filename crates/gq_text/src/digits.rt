@@ -8,7 +8,7 @@ use std::str::from_utf8;
 /// How many bytes a text has at most.
 const MOST_BYTES: usize = 96;
 
-/// The text of a number, of at most 96 bytes; contracts see it as the list of its bytes.
+/// The text of a number, of at most 96 bytes; contracts view it as the list of its bytes.
 #[derive(Drop)]
 pub struct Digits {
     bytes: [u8; MOST_BYTES],
@@ -37,14 +37,14 @@ impl Digits {
         }
     }
 
-    /// The text that was written so far.
+    /// The text in the buffer. Each call that puts a number there replaces the whole text.
     pub fn as_str(&self) -> &str
         ensures { result.now ≡ self.now }
     {
         from_utf8(&self.bytes[..self.len]).unwrap()
     }
 
-    /// The bytes of the text that was written so far.
+    /// The bytes of the text in the buffer, as `as_str` returns it.
     pub fn as_bytes(&self) -> &[u8]
         ensures { result.now ≡ self.now }
     {

@@ -8,10 +8,11 @@ ghost use Rattle.gq_text.specs.Shown.{most_decimals, IsFixedSigned, IsRoundedTex
 
 use crate::show::MOST_DECIMALS;
 
-/// A text means at most one number, also if read as a decimal with a sign or as a quotient. A
-/// number is in at most one way m times 10^e, with a natural number m that does not end in 0. So
-/// whether a decimal fits under a field's limit, which m and e decide, depends on its number and
-/// not on how it is written.
+/// A text means at most one number in each of three readings: as a decimal without a sign; as a
+/// decimal, perhaps after `-`; and as the latter, perhaps followed by `/` and a decimal without a
+/// sign, which together mean the quotient. A number is in at most one way m times 10^e, with a
+/// natural number m that does not end in 0. So whether a decimal fits under a field's limit, which
+/// m and e decide, depends on its number and not on how it is written.
 pub fn reading_laws()
     ensures one_number { (text : List ℕ) (x y : Number) →
         MeansNumber text x → MeansNumber text y → x ≡ y }
@@ -23,11 +24,16 @@ pub fn reading_laws()
         scaled_by_ten (whole (pos m)) e ≡ scaled_by_ten (whole (pos n)) f → (m ≡ n) × (e ≡ f) }
 {}
 
-/// A natural number has at most one numeral. A number has at most one exact text, and at most one
-/// rounded text for each number of decimals. A number's exact text reads back as the number itself.
-/// Its rounded text reads back as a number at most half a unit of the last place from it.
-/// Conversely, a text with this number of decimals that reads back as a number less than half a
-/// unit from it is its rounded text.
+/// A natural number has at most one numeral: its decimal digits without leading zeros. A number has
+/// at most one exact text: its reduced numerator, followed by `/` and the denominator if this is
+/// not 1. It has at most one rounded text for each number of decimals: the number rounded to this
+/// many decimals, halves away from 0. `-` precedes the text of a number below 0, unless the number
+/// is rounded to 0.
+///
+/// A number's exact text reads back as the number itself, and the text of an integer over
+/// 10^`decimals`, with that many decimals, as this fraction. A number's rounded text reads back as
+/// a number at most half a unit of the last place from it. Conversely, a text with this number of
+/// decimals that reads back as a number less than half a unit from it is its rounded text.
 pub fn showing_laws()
     ensures one_numeral { (n : ℕ) (s t : List ℕ) → IsNumeral n s → IsNumeral n t → s ≡ t }
     ensures one_exact { (x : Number) (s t : List ℕ) → IsExactText x s → IsExactText x t → s ≡ t }
