@@ -8,7 +8,7 @@ capped n = min n 4294967295
 
 abbrev mutual
   -- the nesting of a tree: one more than the greatest nesting of its subtrees, so 1 without
-  -- subtrees; the amounts of lags and the conditions of folds are subtrees too
+  -- subtrees; the amounts of lags and the conditions of folds, such as `sum`, are subtrees too
   pub nesting : {N : Type 0} → Tree N → ℕ
   nesting (number n) = 1
   nesting plus_infinity = 1
@@ -42,7 +42,7 @@ abbrev mutual
   deepest_amount (set name rest) = deepest_amount rest
   deepest_amount (lagged name op at amount rest) = max (nesting amount) (deepest_amount rest)
 
-  -- the nesting of the condition of a fold or loop, or 0 without one
+  -- the nesting of the condition of a fold, such as `sum`, or of a loop; 0 without a condition
   pub condition_nesting : {N : Type 0} → Control N → ℕ
   condition_nesting (over sets) = 0
   condition_nesting (over_where sets condition) = nesting condition

@@ -1,5 +1,4 @@
 -- A tree over values as the tree over the numbers that they mean.
-use Rattle.std.specs.Prelude.{List}
 use Rattle.gms_ast.specs.Trees.{Tree, number, plus_infinity, not_available, yes, no, reference, place_in_set, size_of_set, call, fold_over, negated, sum, product, power, relation, not_so, all_of, one_of, guarded, Parts, no_part, part, Indices, no_index, label, set, lagged, Control, over, over_where}
 
 module _ {F N : Type 0} (value : F → N) where

@@ -13,8 +13,8 @@ use Rattle.gms_ast.specs.declared.program.Show.{Show}
 use Rattle.gms_ast.specs.declared.program.Setting.{Setting}
 use Rattle.gms_ast.specs.Trees.{Tree, Indices, Control}
 
--- The left side of an assignment: the place of its first character, its name, its suffix and its
--- indices.
+-- The left side of an assignment: the place of its first character, the number of its name, its
+-- suffix and its indices.
 pub record Target (N : Type 0) : Type 0 where
   pub at : Place
   pub name : ℕ
@@ -33,13 +33,14 @@ pub record Sides (N : Type 0) : Type 0 where
 mutual
   -- What a statement does, over numbers of N.
   pub data Act (N : Type 0) : Type 0 where
-    -- names of a kind, with their domains and data
+    -- the kind that is declared, and the declared names with their domains and data
     declares : DeclKind → List (Decl N) → Act N
     -- two names of a set
     aliases : Named → Named → Act N
-    -- a target, the condition on the left, the place of the right side, and the right side
+    -- a target, the condition on the left if there is one, the place of the right side, and the
+    -- right side
     assigns : Target N → Option (Tree N) → Place → Tree N → Act N
-    -- an equation with its indices, the condition, and the two sides
+    -- an equation, its indices, the condition if there is one, and the two sides
     defines : Named → Indices N → Option (Tree N) → Sides N → Act N
     -- models with their equations
     declares_models : List ModelDecl → Act N
@@ -47,11 +48,11 @@ mutual
     solves : Named → Word → Named → Bool → Act N
     -- what is shown
     displays : List Show → Act N
-    -- sets with a condition, and the statements of the loop
+    -- the sets, with a condition if there is one, and the statements of the loop
     loops : Control N → Statements N → Act N
-    -- words and what they are set to
+    -- options, each as its word and what it is set to
     sets_options : List (Word × Setting N) → Act N
-    -- a condition, and what is shown
+    -- the condition if there is one, and what is shown
     aborts : Option (Tree N) → List Show → Act N
 
   -- Statements in order, each with the place of its first character.

@@ -57,14 +57,15 @@ module _ {F N : Type 0} (value : F → N) where
   abbrev pub shown_right : Right F → Tree N
   shown_right (right.Value e) = shown_tree e
 
-  -- the sequence of statements to which each function in the list adds its statement at the
-  -- beginning
+  -- the sequence of statements that begins with the statement of the first function in the list:
+  -- each function adds its statement before those of the functions after it
   abbrev pub statements_in_order : List (Statements N → Statements N) → Statements N
   statements_in_order [] = no_statement
   statements_in_order (put ∷ puts) = put (statements_in_order puts)
 
-  -- the view of an act, in which each statement of a loop's body is given as the function that puts
-  -- its view before others
+  -- the view, as an `Act N`, of what a statement does; each number v is replaced by `value v`. In
+  -- the argument each statement of a loop's body is a function that puts the view of this statement
+  -- before the statements after it
   abbrev pub act_view_step : Act-F F (Act N) (Statements N → Statements N) → Act N
   act_view_step (Act-F.Declare kind items) = declares kind (map declared_in items)
   act_view_step (Act-F.Alias first second) = aliases first second
@@ -79,15 +80,17 @@ module _ {F N : Type 0} (value : F → N) where
   act_view_step (Act-F.Options settings) = sets_options (map (λ pair. (pair.0, setting_in pair.1)) settings)
   act_view_step (Act-F.Abort condition items) = aborts (option_map shown_tree condition) items
 
-  -- the view of one statement, of which `node` has the place and the view of its act, before others
+  -- the view of one statement before the statements `others`; `node` has the statement's place and
+  -- the view of what it does
   abbrev pub statement_view_step : Stmt-F F (Act N) (Statements N → Statements N) → Statements N → Statements N
   statement_view_step node others = statement node.at node.act others
 
-  -- the view of a statement, put before others
+  -- a statement as contracts compare it, put before other statements; each number v in it, of F, is
+  -- replaced by `value v`, the number of N that v means
   abbrev pub statement_view : Stmt F → Statements N → Statements N
   statement_view = fold-Stmt F (Act N) (Statements N → Statements N) act_view_step statement_view_step
 
-  -- the statements of a program as contracts compare them, with each number v in them replaced by
-  -- `value v`
+  -- the statements of a program, in order, as contracts compare them; each number v in them, of F,
+  -- is replaced by `value v`, the number of N that v means
   abbrev pub statements_view : List (Stmt F) → Statements N
   statements_view statements = statements_in_order (map statement_view statements)

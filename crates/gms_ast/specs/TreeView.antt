@@ -11,32 +11,36 @@ use Rattle.gms_ast.specs.declared.expression.Expr.TheFolds.{fold-Expr, fold-Inde
 use Rattle.gms_ast.specs.Trees.{Mark, plain, placed, signed, related, chosen, Tree, number, plus_infinity, not_available, yes, no, reference, place_in_set, size_of_set, call, fold_over, negated, sum, product, power, relation, not_so, all_of, one_of, guarded, Parts, no_part, part, Indices, no_index, label, set, lagged, Control, over, over_where}
 
 module _ {F : Type 0} where
-  -- a list of trees with their marks, as the parts of a node
+  -- the parts of a node, in order, from a list of their marks and trees; a mark is what the node
+  -- records of a part besides its tree, as whether it is subtracted
   abbrev pub parts_of : List (Mark × Tree F) → Parts F
   parts_of [] = no_part
   parts_of (p ∷ ps) = part p.0 p.1 (parts_of ps)
 
-  -- a list of trees, as the parts of a node without marks
+  -- the parts of a node, in order, from their trees; the node records nothing else of them
   abbrev pub plain_parts : List (Tree F) → Parts F
   plain_parts trees = parts_of (map (λ tree. (plain, tree)) trees)
 
-  -- a list of trees, each with its place and whether it is subtracted or divides, as the parts of a
-  -- sum or a product
+  -- the parts of a sum or a product, in order. Each has the place in the source where it begins, a
+  -- flag, and its tree; the flag is whether a sum subtracts it or a product divides by it
   abbrev pub signed_parts : List (Place × Bool × Tree F) → Parts F
   signed_parts parts = parts_of (map (λ p. (signed p.0 p.1, p.2)) parts)
 
-  -- the indices to which each function in the list adds its index at the beginning
+  -- the indices that begin with the index of the first function in the list: each function adds its
+  -- index before those of the functions after it
   abbrev pub indices_of : List (Indices F → Indices F) → Indices F
   indices_of [] = no_index
   indices_of (put ∷ puts) = put (indices_of puts)
 
-  -- an index by the set with the number `name`, with its lag if it has one, followed by other
-  -- indices
+  -- an index by the set whose name has the number `name`, with its lag if it has one, followed by
+  -- the indices `rest`. A lag is its operator, the place in the source of its amount, and the tree
+  -- of this amount
   abbrev pub set_index : ℕ → Option (LagOp × Place × Box (Tree F) Global) → Indices F → Indices F
   set_index name None rest = set name rest
   set_index name (Some lag) rest = lagged name lag.0 lag.1 lag.2.value rest
 
-  -- the control over these sets, with a condition if there is one
+  -- the control of a fold or loop: the sets over which it goes, by the numbers of their names, and
+  -- the condition on their elements, if there is one
   abbrev pub control_of : List ℕ → Option (Box (Tree F) Global) → Control F
   control_of sets None = over sets
   control_of sets (Some condition) = over_where sets condition.value
@@ -80,6 +84,6 @@ module _ {F : Type 0} where
   abbrev pub index_tree : Index F → Indices F → Indices F
   index_tree = fold-Index F (Tree F) (Indices F → Indices F) (Control F) tree_step index_step control_step
 
-  -- the view of the control of a fold or loop: its sets and its condition
+  -- the view of the control of a fold or loop: its sets, and its condition if there is one
   abbrev pub control_tree : ControlNode F → Control F
   control_tree = fold-Control F (Tree F) (Indices F → Indices F) (Control F) tree_step index_step control_step

@@ -8,7 +8,9 @@ use Rattle.gms_ast.specs.declared.expression.LagOp.{LagOp}
 use Rattle.gms_ast.specs.declared.expression.Function.{Function}
 use Rattle.gms_ast.specs.declared.expression.RelOp.{RelOp}
 
--- What a part of a node has besides its tree.
+-- What a node of an expression records of a part besides its tree. A place is that of the part's
+-- first character in the source. A flag or a relation is of the operator before the part; the first
+-- part of a node has none, so its flag or relation has no meaning.
 pub data Mark : Type 0 where
   -- nothing
   plain : Mark
@@ -22,8 +24,10 @@ pub data Mark : Type 0 where
   chosen : Bool → Mark
 
 mutual
-  -- An expression over numbers of N. A ℕ is the number of a name; a place is that of the first
-  -- character.
+  -- An expression over numbers of N. A ℕ is the number of a name; a place is that of the node's
+  -- first character in the source. `place_in_set` is `ord`, and `size_of_set` is `card`.
+  -- `fold_over` joins the values of its tree over sets, as GAMS `sum` and `smax` do. `one_of` is a
+  -- choice by `or` and `xor`. `guarded` is an operand and its `$` conditions.
   pub data Tree (N : Type 0) : Type 0 where
     number : N → Tree N
     plus_infinity : Tree N
@@ -45,13 +49,14 @@ mutual
     one_of : Parts N → Tree N
     guarded : Tree N → Parts N → Tree N
 
-  -- Parts of a node in order, each with its mark.
+  -- Parts of a node in order. Each is a tree with a mark: what the node records of it besides, as
+  -- whether it is subtracted.
   pub data Parts (N : Type 0) : Type 0 where
     no_part : Parts N
     part : Mark → Tree N → Parts N → Parts N
 
-  -- Indices of a reference in order: a label, a set, or a set with a lag, the place of its amount
-  -- and the amount.
+  -- Indices of a reference in order: a label or a set, each by its number. A set may have a lag,
+  -- with the place of the lag's amount and the amount.
   pub data Indices (N : Type 0) : Type 0 where
     no_index : Indices N
     label : ℕ → Indices N → Indices N

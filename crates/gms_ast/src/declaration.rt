@@ -64,12 +64,13 @@ pub struct Item<F> {
     /// The place of the item's first character; for an entry of a table, the place of the number.
     pub at: Place,
     /// For each position of the elements, in order, the labels that the item lists there, by their
-    /// numbers in the table of labels.
+    /// numbers in the table of labels. A range, as `a1*a3`, counts as all its labels, and an
+    /// invalid range as none.
     pub parts: Sequence<Sequence<u32>>,
     /// The value that the item gives its elements: a number, an infinity or NA; `None` if the item
     /// has no value, as in `/a/`.
     pub value: Option<Ext<F>>,
-    /// Whether the item has an invalid range, as in `/a3*a1/`.
+    /// Whether the item has an invalid range, as in `/a3*a1/`: one that has no labels.
     pub bad_range: bool,
 }
 
@@ -88,12 +89,13 @@ impl<F: Drop> Drop for Item<F> {
 /// One model that is declared.
 ///
 /// In `model m /cost, supply/;` the model `m` has two equations, and in `model m /all/;` it has all
-/// equations that are declared.
+/// equations that are declared before this statement.
 #[derive(Debug)]
 pub struct ModelDecl {
     /// The name of the model, with its place in the source.
     pub named: Named,
-    /// Whether the model has all declared equations, as in `model m /all/;`.
+    /// Whether the model has all equations that are declared before its statement, as in
+    /// `model m /all/;`. If so, `equations` has no meaning.
     pub all: bool,
     /// The equations that the declaration of the model lists by name, in order.
     pub equations: Sequence<Named>,

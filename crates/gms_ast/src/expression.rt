@@ -99,9 +99,9 @@ pub enum RelOp {
 ///
 /// Parentheses, a sign `+` and a production of the grammar without an operator add no node. The
 /// place of a part of a sum, a product or a power is that of the part's first character, which may
-/// be a sign. A flag or a relation of a part tells the operator before the part. The first part has
-/// no operator before it, so its flag, which is false, or its relation, which is `Eq`, has no
-/// meaning.
+/// be a sign. A flag or a relation of a part tells the operator before the part: the flag is true
+/// for `-`, `/` and `xor`, and false for `+`, `*` and `or`. The first part has no operator before
+/// it, so its flag, which is false, or its relation, which is `Eq`, has no meaning.
 #[cycle(expression)]
 pub enum Expr<F> {
     /// A number, as `2.5`.

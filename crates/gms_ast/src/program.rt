@@ -187,7 +187,7 @@ impl<F: Drop> Drop for Act<F> {
 /// In `x.lo(i,"a") = 3;` it is `x.lo(i,"a")`.
 #[derive(Drop)]
 pub struct Target<F> {
-    /// The place of the first character of what is assigned.
+    /// The place of the first character of the left side of the assignment.
     pub at: Place,
     /// The assigned name, by its number in the table of names.
     pub name: u32,
@@ -225,7 +225,7 @@ pub enum Side {
     N,
 }
 
-/// What a `display` or an `abort` shows.
+/// One of the items that a `display` or an `abort` shows.
 #[derive(Debug)]
 pub enum Show {
     /// A text, as in `display "costs";`.

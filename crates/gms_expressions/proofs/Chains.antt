@@ -22,7 +22,7 @@ use Rattle.gms_expressions.specs.declared.reader.Tables.{Tables}
 use Rattle.gms_expressions.specs.ExpressionTrees.{or_alone, first_place, place_in}
 use Rattle.gms_expressions.specs.Outcomes.{next_place}
 use Rattle.gms_expressions.specs.InnerNodes.{view}
-use Rattle.gms_expressions.specs.InnerReadings.{Seen, Derivation, GamsPart, Meaning, Gives, Refuses, Sense, IsGot, IsMeant, IsNext, seen_from, read_state_of}
+use Rattle.gms_expressions.specs.InnerReadings.{Seen, Derivation, GamsPart, Meaning, Refuses, Sense, IsGot, IsMeant, IsNext, seen_from, read_state_of}
 use Rattle.gms_expressions.proofs.TokenKinds.{is_plain, implies}
 use Rattle.gms_expressions.proofs.Steps.{Within, within_the, within_second, within_then, gives_both, refuses_second}
 use Rattle.gms_expressions.proofs.Nexts.{gives_next, leads_next, unled_next}

@@ -14,7 +14,8 @@ use Rattle.gms_expressions.specs.Outcomes.{ExpressionState, kinded_tokens, IsPar
 abbrev pub expression_state : ℕ → List (List ℕ) → List (List ℕ) → ExpressionState
 expression_state unclosed names labels = record { open_count = unclosed; names = names; labels = labels; dotted = false }
 
--- the tokens of a source from the position `at` in their list on, each with its kind
+-- the tokens of a source from the index `at` of their list on, each with its terminal of the
+-- grammar
 abbrev pub tokens_from : List ℕ → List Token → ℕ → List (Terminal × Token)
 tokens_from source tokens at = kinded_tokens source (drop at tokens)
 
@@ -26,16 +27,18 @@ IsTablePrefix before after = (more : List (List ℕ)) × (after ≡ before ++ mo
 abbrev pub KeepsPlaces : List (List ℕ) → List (List ℕ) → Type 0
 KeepsPlaces texts later = (text : List ℕ) (n : ℕ) → place_of texts text ≡ Some n → place_of later text ≡ Some n
 
--- The longest part that begins the tokens was read, and `part` is what its derivation means by the
--- names and labels after it, and by any later tables that keep their positions. `Means names labels
--- tree part` states that `part` is what the derivation `tree` of the nonterminal n means by these
--- tables.
+-- The longest part of the nonterminal n that begins the tokens was read, from the state `before` to
+-- the state `after`; `rest` follows it, and `limit` is the limit of the size of numbers. `part` is
+-- what its derivation means by the names and labels of `after`, and by any later tables that keep
+-- their positions. `Means names labels tree part` states that `part` is what the derivation `tree`
+-- means by these tables.
 pub record IsRead {T : Type 0} (limit : ℕ) (source : List ℕ) (n : Nonterminal) (Means : List (List ℕ) → List (List ℕ) → DerivationTree (Terminal × Token) → T → Type 0) (before after : ExpressionState) (tokens rest : List (Terminal × Token)) (part : T) : Type 0 where
   pub tree : DerivationTree (Terminal × Token)
   pub is_part : IsPart limit source n before after tokens rest tree
   pub means : (names labels : List (List ℕ)) → KeepsPlaces after.names names → KeepsPlaces after.labels labels → Means names labels tree part
 
--- the result in place of a part is right: the part's first fault, or out of memory
+-- the result in place of a part of the nonterminal n, read from the state `before` on, is right: a
+-- fault is the part's first one, and out of memory makes no claim
 abbrev pub IsSyntaxRefusal : ℕ → List ℕ → Nonterminal → ExpressionState → List (Terminal × Token) → SyntaxFaultOrMemory → Type 0
 IsSyntaxRefusal limit source n before tokens (Fault fault) = IsRefusedPart limit source n before tokens fault
 IsSyntaxRefusal limit source n before tokens Memory = Unit {0}

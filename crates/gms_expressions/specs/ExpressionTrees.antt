@@ -51,7 +51,8 @@ unfoldable pub relation_of_word : List ℕ → RelOp
 relation_of_word text =
     if is_word text (codes "lt") then rel_op.Lt else (if is_word text (codes "le") then rel_op.Le else (if is_word text (codes "eq") then rel_op.Eq else (if is_word text (codes "ne") then rel_op.Ne else (if is_word text (codes "ge") then rel_op.Ge else rel_op.Gt))))
 
--- the relation that a token denotes, by its kind and its bytes
+-- the relation that a token denotes: that of a symbol by its kind, and for any other token that of
+-- its bytes as a word
 abbrev pub relation_of : Kind → List ℕ → RelOp
 relation_of (kind.Symbol sym.Less) text = rel_op.Lt
 relation_of (kind.Symbol sym.LessEq) text = rel_op.Le
@@ -87,27 +88,28 @@ or_0 (Some n) = n
 abbrev pub no_token : Token
 no_token = record { kind = kind.End; start = 0; end = 0; at = record { line = 0; column = 0 } }
 
--- the token of a derivation tree that is a leaf
+-- the token of a derivation tree that is a leaf; `no_token` for any other tree
 abbrev pub token_of : DerivationTree (Terminal × Token) → Token
 token_of (leaf token) = token.1
 token_of _ = no_token
 
--- the terminal of the token of a derivation tree that is a leaf
+-- the terminal of the token of a derivation tree that is a leaf; `End` for any other tree
 abbrev pub terminal_in : DerivationTree (Terminal × Token) → Terminal
 terminal_in (leaf token) = token.0
 terminal_in _ = terminal.End
 
--- the first of the two derivation trees of a pair
+-- the first of the two derivation trees of a pair; `none` for any other tree
 abbrev pub first_in : {T : Type 0} → DerivationTree T → DerivationTree T
 first_in (pair a b) = a
 first_in _ = none
 
--- the second of the two derivation trees of a pair
+-- the second of the two derivation trees of a pair; `none` for any other tree
 abbrev pub second_in : {T : Type 0} → DerivationTree T → DerivationTree T
 second_in (pair a b) = b
 second_in _ = none
 
--- the derivation tree inside that of an optional part or of a nonterminal
+-- the derivation tree inside that of an optional part or of a nonterminal; `none` for any other
+-- tree
 abbrev pub inside : {T : Type 0} → DerivationTree T → DerivationTree T
 inside (some tree) = tree
 inside (node tree) = tree
@@ -159,7 +161,8 @@ module _ (source : List ℕ) (names labels : List (List ℕ)) where
   abbrev pub label_in : DerivationTree (Terminal × Token) → ℕ
   label_in tree = or_0 (place_of labels (unquoted (text_in tree)))
 
-  -- the suffix of a reference, by the derivation tree of an optional dot and word
+  -- the suffix of a reference, by the derivation tree of an optional dot and word; None if these
+  -- are left out
   abbrev pub suffix_in : DerivationTree (Terminal × Token) → Suffix
   suffix_in (some (node (pair _ word))) = suffix_of (text_in word)
   suffix_in _ = suffix.None
@@ -169,18 +172,19 @@ module _ (source : List ℕ) (names labels : List (List ℕ)) where
   following_names (more (pair _ name) others) = name_in name ∷ following_names others
   following_names _ = []
 
-  -- the numbers of the names in a list
+  -- the numbers of the names in a list; none for a tree of another form
   abbrev pub names_in : DerivationTree (Terminal × Token) → List ℕ
   names_in (node (pair first others)) = name_in first ∷ following_names others
   names_in _ = []
 
-  -- the sets of a fold or loop, by the numbers of their names: one, or those in parentheses
+  -- the sets of a fold or loop, by the numbers of their names: one, or those in parentheses;
+  -- otherwise none
   abbrev pub sets_in : DerivationTree (Terminal × Token) → List ℕ
   sets_in (control_set name) = name_in name ∷ []
   sets_in (control_sets (pair _ (pair list _))) = names_in list
   sets_in _ = []
 
-  -- the syntax tree of `ord` or `card` of a set
+  -- the syntax tree of `ord` or `card` of a set; `no` for a tree of another form
   abbrev pub set_call : DerivationTree (Terminal × Token) → Syntax Number
   set_call (pair word (pair _ (pair name _))) =
       if is_word (text_in word) (codes "ord") then place_in_set (token_of word).at (name_in name) else size_of_set (token_of word).at (name_in name)
@@ -199,7 +203,8 @@ module _ (source : List ℕ) (names labels : List (List ℕ)) where
   scalar tree = reference (token_of tree).at (name_in tree) suffix.None no_index
 
   abbrev mutual
-    -- the syntax tree of an expression: parts joined by `or` and `xor`
+    -- the syntax tree of an expression: parts joined by `or` and `xor`. The first part, which
+    -- follows neither, has the mark of `or` (`false`). A tree of another form gives `no`
     pub expression : DerivationTree (Terminal × Token) → Syntax Number
     expression (node (pair first others)) = or_alone (conjunction first) (λ rest. one_of (part (chosen false) (conjunction first) rest)) (choices others)
     expression _ = no
@@ -208,7 +213,7 @@ module _ (source : List ℕ) (names labels : List (List ℕ)) where
     choices (more (pair word tree) others) = part (chosen (is_word (text_in word) (codes "xor"))) (conjunction tree) (choices others)
     choices _ = no_part
 
-    -- the syntax tree of parts joined by `and`
+    -- the syntax tree of parts joined by `and`; `no` for a tree of another form
     pub conjunction : DerivationTree (Terminal × Token) → Syntax Number
     conjunction (node (pair first others)) = or_alone (negation first) (λ rest. all_of (part plain (negation first) rest)) (conjuncts others)
     conjunction _ = no
@@ -217,12 +222,13 @@ module _ (source : List ℕ) (names labels : List (List ℕ)) where
     conjuncts (more (pair _ tree) others) = part plain (negation tree) (conjuncts others)
     conjuncts _ = no_part
 
-    -- the syntax tree of a comparison, perhaps under `not`
+    -- the syntax tree of a comparison, perhaps under `not`; `no` for a tree of another form
     pub negation : DerivationTree (Terminal × Token) → Syntax Number
     negation (node (pair word tree)) = negated_by word (comparison_tree tree)
     negation _ = no
 
-    -- the syntax tree of a comparison: sums joined by relations
+    -- the syntax tree of a comparison: sums joined by relations. The first sum, which follows no
+    -- relation, has the mark of `=`. A tree of another form gives `no`
     pub comparison_tree : DerivationTree (Terminal × Token) → Syntax Number
     comparison_tree (node (pair first others)) = or_alone (sum_tree first) (λ rest. relation (part (related rel_op.Eq) (sum_tree first) rest)) (relations others)
     comparison_tree _ = no
@@ -231,7 +237,8 @@ module _ (source : List ℕ) (names labels : List (List ℕ)) where
     relations (more (pair word tree) others) = part (related (relation_of (token_of word).kind (text_in word))) (sum_tree tree) (relations others)
     relations _ = no_part
 
-    -- the syntax tree of a sum, whose first part may have a sign
+    -- the syntax tree of a sum. A `-` before the first part negates this part, and its mark has
+    -- `false`: it is not subtracted. A tree of another form gives `no`
     pub sum_tree : DerivationTree (Terminal × Token) → Syntax Number
     sum_tree (node (pair sign (pair first others))) =
         or_alone (with_sign sign (product_tree first)) (λ rest. sum (part (signed (place_in (pair sign first)) false) (with_sign sign (product_tree first)) rest)) (terms others)
@@ -242,7 +249,8 @@ module _ (source : List ℕ) (names labels : List (List ℕ)) where
     terms _ = no_part
 
     -- the syntax tree of a product: powers joined by `*` and `/`, where each but the first may have
-    -- a sign
+    -- a sign. The mark of the first has `false`: it does not divide. A tree of another form gives
+    -- `no`
     pub product_tree : DerivationTree (Terminal × Token) → Syntax Number
     product_tree (node (pair first others)) = or_alone (power_of first) (λ rest. product (part (signed (place_in first) false) (power_of first) rest)) (factors others)
     product_tree _ = no
@@ -251,13 +259,13 @@ module _ (source : List ℕ) (names labels : List (List ℕ)) where
     factors (more (pair operator tree) others) = part (signed (place_in tree) (is_slash (token_of operator).kind)) (signed_power tree) (factors others)
     factors _ = no_part
 
-    -- the syntax tree of a power, perhaps with a sign
+    -- the syntax tree of a power, perhaps with a sign; `no` for a tree of another form
     pub signed_power : DerivationTree (Terminal × Token) → Syntax Number
     signed_power (pair sign tree) = with_sign sign (power_of tree)
     signed_power _ = no
 
     -- the syntax tree of a power: operands, perhaps under conditions, joined by `**`, where each
-    -- but the first may have a sign
+    -- but the first may have a sign; `no` for a tree of another form
     pub power_of : DerivationTree (Terminal × Token) → Syntax Number
     power_of (node (pair first others)) = or_alone (guarded_of first) (λ rest. power (part (placed (place_in first)) (guarded_of first) rest)) (exponents others)
     power_of _ = no
@@ -266,12 +274,14 @@ module _ (source : List ℕ) (names labels : List (List ℕ)) where
     exponents (more (pair _ tree) others) = part (placed (place_in tree)) (signed_guarded tree) (exponents others)
     exponents _ = no_part
 
-    -- the syntax tree of an operand under conditions, perhaps with a sign
+    -- the syntax tree of an operand under conditions, perhaps with a sign; `no` for a tree of
+    -- another form
     pub signed_guarded : DerivationTree (Terminal × Token) → Syntax Number
     signed_guarded (pair sign tree) = with_sign sign (guarded_of tree)
     signed_guarded _ = no
 
-    -- the syntax tree of an operand under the conditions that follow it, if any
+    -- the syntax tree of an operand under the conditions that follow it, if any; `no` for a tree of
+    -- another form
     pub guarded_of : DerivationTree (Terminal × Token) → Syntax Number
     guarded_of (node (pair operand others)) = or_alone (primary operand) (guarded (primary operand)) (guards others)
     guarded_of _ = no
@@ -280,7 +290,8 @@ module _ (source : List ℕ) (names labels : List (List ℕ)) where
     guards (more tree others) = part plain (condition tree) (guards others)
     guards _ = no_part
 
-    -- the syntax tree of a condition, from the derivation tree of a `$` and the condition after it
+    -- the syntax tree of a condition, from the derivation tree of a `$` and the condition after it;
+    -- `no` for a tree of another form
     pub condition : DerivationTree (Terminal × Token) → Syntax Number
     condition (node (pair _ tree)) = negated_primary tree
     condition _ = no
@@ -290,7 +301,7 @@ module _ (source : List ℕ) (names labels : List (List ℕ)) where
     negated_primary _ = no
 
     -- the syntax tree of an operand: a constant, a reference, a call, a fold, or an expression in
-    -- parentheses
+    -- parentheses; `no` for a tree of another form
     pub primary : DerivationTree (Terminal × Token) → Syntax Number
     primary (node (primary_constant tree)) = constant_in tree
     primary (node (primary_target tree)) = target tree
@@ -303,7 +314,8 @@ module _ (source : List ℕ) (names labels : List (List ℕ)) where
     bracketed_expression (pair _ (pair tree _)) = expression tree
     bracketed_expression _ = no
 
-    -- the syntax tree of a call of a function, or of `ord` or `card`
+    -- the syntax tree of a call of a function, or of `ord` or `card`; `no` for a tree of another
+    -- form
     pub call_of : DerivationTree (Terminal × Token) → Syntax Number
     call_of (node (call_function tree)) = function_call tree
     call_of (node (call_set tree)) = set_call tree
@@ -325,13 +337,15 @@ module _ (source : List ℕ) (names labels : List (List ℕ)) where
     more_arguments (more (pair _ tree) others) = part plain (expression tree) (more_arguments others)
     more_arguments _ = no_part
 
-    -- the syntax tree of a fold: `sum`, `prod`, `smin` or `smax` over sets
+    -- the syntax tree of a fold: `sum`, `prod`, `smin` or `smax` over sets; `no` for a tree of
+    -- another form
     pub fold_of : DerivationTree (Terminal × Token) → Syntax Number
     fold_of (node (pair word (pair _ (pair (pair sets (pair _ body)) _)))) =
         fold_over (token_of word).at (fold_op_of (text_in word)) (control sets) (expression body)
     fold_of _ = no
 
-    -- the syntax tree of a reference, or of the left side of an assignment
+    -- the syntax tree of a reference, or of the left side of an assignment; `no` for a tree of
+    -- another form
     pub target : DerivationTree (Terminal × Token) → Syntax Number
     target (node (pair name (pair dotted bracketed))) = reference (token_of name).at (name_in name) (suffix_in dotted) (optional_indices bracketed)
     target _ = no
@@ -349,7 +363,7 @@ module _ (source : List ℕ) (names labels : List (List ℕ)) where
     more_indices _ = no_index
 
     -- the indices that begin with the one of this derivation tree, a label or a set, perhaps with a
-    -- lag; `rest` follows it
+    -- lag; `rest` follows it, and is all for a tree of another form
     pub index : DerivationTree (Terminal × Token) → Indices Number → Indices Number
     index (node (index_label text)) rest = label (label_in text) rest
     index (node (index_set (pair name none))) rest = set (name_in name) rest
@@ -366,7 +380,8 @@ module _ (source : List ℕ) (names labels : List (List ℕ)) where
     lag_amount (node (amount_expression tree)) = bracketed_expression tree
     lag_amount _ = no
 
-    -- the sets of a fold or a loop, with the condition if there is one
+    -- the sets of a fold or a loop, with the condition if there is one; a tree of another form has
+    -- no sets
     pub control : DerivationTree (Terminal × Token) → Control Number
     control (node (pair sets none)) = over (sets_in sets)
     control (node (pair sets (some tree))) = over_where (sets_in sets) (condition tree)

@@ -8,7 +8,7 @@ use Rattle.gms_expressions.specs.declared.fault.SyntaxError.TheVariants.{Expecte
 use Rattle.gms_expressions.specs.declared.fault.SyntaxFaultOrMemory.{SyntaxFaultOrMemory}
 use Rattle.gms_expressions.specs.declared.fault.SyntaxFaultOrMemory.TheVariants.{Fault, Memory}
 
--- the number of a syntax error
+-- the number of a syntax error in a listing. `Number` is the error of a number out of range
 abbrev pub syntax_error_code : SyntaxError → ℕ
 syntax_error_code Expected = 11
 syntax_error_code Depth = 12
@@ -16,7 +16,7 @@ syntax_error_code Number = 13
 syntax_error_code NotInProfile = 14
 syntax_error_code TooManyLabels = 15
 
--- the name of a syntax error
+-- the name of a syntax error in a listing
 abbrev pub syntax_error_name : SyntaxError → List ℕ
 syntax_error_name Expected = codes "Expected"
 syntax_error_name Depth = codes "Depth"
@@ -25,7 +25,7 @@ syntax_error_name NotInProfile = codes "NotInProfile"
 syntax_error_name TooManyLabels = codes "TooManyLabels"
 
 -- the result in place of a part if the name or label at this place could not be entered in its
--- table
+-- table: TooManyLabels at the place if the table is full, or out of memory
 abbrev pub not_entered : LabelFault → Place → SyntaxFaultOrMemory
 not_entered label_fault.Full at = Fault (record { error = TooManyLabels; at = at })
 not_entered label_fault.Memory at = Memory

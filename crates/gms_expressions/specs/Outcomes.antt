@@ -35,8 +35,8 @@ pub record ExpressionState : Type 0 where
   pub labels : List (List ℕ)
   pub dotted : Bool
 
--- whether a token of this kind, in this state, is a name: a `Name` or a `Suffix` that no dot
--- precedes
+-- whether a token of this kind, in this state, is a name: a `Name` or a `Suffix`, with no dot
+-- before it
 abbrev pub is_name_token : ExpressionState → Terminal → Bool
 is_name_token read_state kind = is_terminal_among (terminal.Name ∷ terminal.Suffix ∷ []) kind && not read_state.dotted
 
@@ -46,7 +46,8 @@ open_after n terminal.LeftParen = n + 1
 open_after n terminal.RightParen = n - 1
 open_after n _ = n
 
--- the state after a token of a source: a new name or label is entered
+-- the state after a token of a source: a parenthesis is counted, a new name or label is entered,
+-- and it is noted whether the token is a dot
 abbrev pub state_after_token : List ℕ → ExpressionState → Terminal × Token → ExpressionState
 state_after_token source read_state token =
     record {
@@ -56,7 +57,8 @@ state_after_token source read_state token =
       dotted = is terminal.Dot token.0;
     }
 
--- the state after tokens; in expressions it does not depend on the token that follows them
+-- the state after these tokens of a source; `ahead`, the kind of the token that follows them, has
+-- no effect in expressions
 abbrev pub state_after_tokens : List ℕ → ExpressionState → List (Terminal × Token) → Terminal → ExpressionState
 state_after_tokens source read_state tokens ahead = left_by (λ read_state token ahead. state_after_token source read_state token) read_state tokens ahead
 
@@ -65,18 +67,21 @@ abbrev pub next_place : List ℕ → List (Terminal × Token) → Place
 next_place source [] = place_of_byte source (length source)
 next_place source (token ∷ tokens) = token.1.at
 
--- the error of the first of these tokens as unexpected: NotInProfile for a word that the language
--- leaves out, else Expected
+-- the error that the first of these tokens is unexpected: NotInProfile for a word that the language
+-- leaves out, else Expected, also without tokens
 abbrev pub unexpected_error : List (Terminal × Token) → SyntaxError
 unexpected_error [] = Expected
 unexpected_error (token ∷ tokens) = if is terminal.NotInProfile token.0 then NotInProfile else Expected
 
--- the fault of the first of the tokens `rest` as unexpected
+-- the fault that the first of the tokens `rest` is unexpected, or, without tokens, that the end of
+-- the source is
 abbrev pub unexpected_token : List ℕ → List (Terminal × Token) → SyntaxFault
 unexpected_token source rest = record { error = unexpected_error rest; at = next_place source rest }
 
--- A token that the grammar expects has a fault: it opens a 101st parenthesis, it is a number out of
--- range, or it is a new name or label for which the table is full.
+-- A token that the grammar expects has a fault: it opens a parenthesis while 100 are open; it is a
+-- number out of range, that is, neither m times 10^e within `limit`, the limit of the size of
+-- numbers, nor m over 10^e with m and 10^e within it (`FitsLiteral`); or it is a new name or label
+-- for which the table is full.
 pub data IsFaultyInExpression (limit : ℕ) (source : List ℕ) (read_state : ExpressionState) (token : Terminal × Token) : SyntaxFault → Type 0 where
   deep : token.0 ≡ terminal.LeftParen → 100 ≤ read_state.open_count → IsFaultyInExpression limit source read_state token (record { error = Depth; at = token.1.at })
   out_of_range : token.0 ≡ terminal.Number → ((x : Number) → MeansNumber (token_text source token.1) x → FitsLiteral limit x → ⊥) →
@@ -86,8 +91,9 @@ pub data IsFaultyInExpression (limit : ℕ) (source : List ℕ) (read_state : Ex
   many_labels : token.0 ≡ terminal.Text → IsFullFor read_state.labels (unquoted (token_text source token.1)) →
       IsFaultyInExpression limit source read_state token (record { error = TooManyLabels; at = token.1.at })
 
--- the rule by which expressions are read, for a pair of the limit of numbers and the source: the
--- state after a token, the faults of a token, and the fault of an unexpected one
+-- the rule by which expressions are read, for a pair of the limit of the size of numbers and the
+-- source: the state after a token, the faults of a token, the fault of an unexpected one, and the
+-- result that reports a fault
 abbrev pub syntax_rule : ℕ × List ℕ → Rule Token ExpressionState SyntaxFault SyntaxFaultOrMemory
 syntax_rule key = record {
   after = λ read_state token ahead. state_after_token key.1 read_state token;
@@ -97,17 +103,20 @@ syntax_rule key = record {
 }
 
 module _ (limit : ℕ) (source : List ℕ) where
-  -- The longest part of the nonterminal n that begins the tokens is complete and has no faulty
-  -- token: `tree` is its tree, `rest` follows it, and the state is `read_state` before it and
-  -- `following` after it.
+  -- The longest prefix of the tokens of `source` that begins something the nonterminal n derives is
+  -- itself derived by n, and has no token that is faulty by `syntax_rule` under `limit`, the limit
+  -- of the size of numbers. This prefix is the part: `tree` is its tree, `rest` follows it, and the
+  -- state is `read_state` before it and `following` after it.
   pub record IsPart (n : Nonterminal) (read_state following : ExpressionState) (tokens rest : List (Terminal × Token)) (tree : DerivationTree (Terminal × Token)) : Type 0 where
     pub is_tree : IsTree productions (the n) tree
     pub stops : Stops productions (the n) tokens (yield tree) rest
     pub are_sound : AreFaultless (syntax_rule (limit, source)) read_state (yield tree) (kind_of rest)
     pub leaves : following ≡ state_after_tokens source read_state (yield tree) (kind_of rest)
 
-  -- The tokens begin no complete part of the nonterminal n, or one with a faulty token, and this is
-  -- the first fault. If the longest prefix that begins a part is not complete, then the token after
-  -- it is unexpected.
+  -- `fault` is the first fault of the tokens of `source`, read as the nonterminal n from the state
+  -- `read_state`, by `syntax_rule` under `limit`, the limit of the size of numbers. Take their
+  -- longest prefix that begins something n derives. Either the fault is that of its first faulty
+  -- token; or it has none, n does not derive it, and the fault is that of what follows it, which is
+  -- unexpected: the next token, or without one the end of the source.
   abbrev pub IsRefusedPart : Nonterminal → ExpressionState → List (Terminal × Token) → SyntaxFault → Type 0
   IsRefusedPart n read_state tokens fault = rules.IsRefusedByRule syntax_rule (limit, source) (λ prefix rest. Derives productions (the n) prefix → ⊥) n read_state tokens fault

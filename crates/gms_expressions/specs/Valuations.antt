@@ -18,17 +18,20 @@ leading_digits text = take (prefix_len is_ascii_digit text) text
 abbrev pub after_digits : List ℕ → List ℕ
 after_digits text = drop (prefix_len is_ascii_digit text) text
 
--- the digits after the point with which a text begins; none without a point
+-- the digits after the point, byte 46, with which a text begins; none if the text begins with no
+-- point
 abbrev pub point_digits : List ℕ → List ℕ
 point_digits [] = []
 point_digits (b ∷ text) = if b == 46 then leading_digits text else []
 
--- a text without the point with which it begins and the digits after that; the text without a point
+-- a text without the point, byte 46, with which it begins and the digits after that; the text
+-- unchanged if it begins with no point
 abbrev pub after_point : List ℕ → List ℕ
 after_point [] = []
 after_point (b ∷ text) = if b == 46 then after_digits text else b ∷ text
 
--- the integer that digits spell, with an optional sign before them; 0 for no digits
+-- the integer that digits spell, with an optional sign before them, `-` (byte 45) or `+` (byte 43);
+-- 0 for no digits
 abbrev pub signed_digits : List ℕ → ℤ
 signed_digits [] = pos 0
 signed_digits (b ∷ text) = if b == 45 then neg_ℤ (pos (spelled text)) else (if b == 43 then pos (spelled text) else pos (spelled (b ∷ text)))

@@ -8,7 +8,7 @@ use Rattle.gms_grammar.specs.declared.terminal.Terminal.{Terminal}
 use Rattle.gms_grammar.specs.declared.terminal.Terminal.TheVariants.{Suffix, Function, OrdCard, FoldOp, Infinity, NotAvailable, YesNo, Not, And, Or, RelationWord, All, Using, Direction, Reserved, NotInProfile, Name, Sense, Power, DotDot, Relation, Circular, Sign, Star, Slash, Equals, LeftParen, RightParen, Comma, Semicolon, Dot, Dollar, Label, Number, Text, LongText, Break, TableLine, End}
 use Rattle.gms_grammar.specs.Keywords.{Words, statement_words, kind_among}
 
--- the reserved words of expressions, by their terminals
+-- the reserved words of expressions, and the suffixes, which may be names too, by their terminals
 abbrev pub expression_words : List Words
 expression_words =
     (Suffix, codes "lo" ∷ codes "up" ∷ codes "l" ∷ codes "m" ∷ codes "fx" ∷ codes "modelstat" ∷ codes "solvestat" ∷ []) ∷
@@ -35,7 +35,8 @@ other_words =
     (NotInProfile, codes "if" ∷ codes "while" ∷ codes "for" ∷ codes "put" ∷ codes "file" ∷ codes "acronym" ∷ codes "eps" ∷ codes "undf" ∷ []) ∷
     []
 
--- the terminal of a reserved word, or `Name` for None, a word that is not reserved
+-- the terminal that a word has in the lists of words, or `Name` for None, a word that is in none of
+-- them
 abbrev pub or_name : Option Terminal → Terminal
 or_name None = Name
 or_name (Some terminal) = terminal

@@ -63,17 +63,18 @@ impl Tables {
     }
 }
 
-/// The longest expression that begins at the token with the index `from`, and the index of the
-/// token after the expression.
+/// The expression that begins at the token with the index `from`, and the index of the token after
+/// it: the expression is read on as long as the next token continues it.
 ///
 /// `tokens` are those of the source. Before the token at `from` there are `unclosed` open
 /// parentheses, at most 100. `names` and `labels` are the tables of the program: new names and
 /// labels of the expression are appended, and the others stay. On failure some may be appended too.
 ///
-/// The fault is the first that the tokens have in their order: a token that cannot continue the
-/// expression (`Expected`, or `NotInProfile` for a word that the language leaves out), a
-/// parenthesis that is opened while 100 are open (`Depth`), a number out of range (`Number`), a new
-/// name or label for which the table is full (`TooManyLabels`). `Memory` means out of memory.
+/// The fault is the first that the tokens have in their order: a token that cannot come next in an
+/// expression that is not complete, as `;` in `a + ;` (`Expected`, or `NotInProfile` for a word
+/// that the language leaves out), a parenthesis that is opened while 100 are open (`Depth`), a
+/// number out of range (`Number`), a new name or label for which the table is full
+/// (`TooManyLabels`). `Memory` means out of memory.
 pub fn expression<F: ExactField>(
     alloc: Global,
     source: &[u8],

@@ -23,7 +23,7 @@ use std::alloc::Global;
 /// The greatest number of parentheses that may be open at once.
 pub const MOST_OPEN: u32 = 100;
 
-/// A part, and the place of the token after it.
+/// A part, and the index of the token after it.
 pub(crate) type Read<T> = Result<(T, usize), SyntaxFaultOrMemory>;
 
 /// The names and the labels of a program.

@@ -16,6 +16,6 @@ abbrev pub control_words : List (List ℕ)
 control_words =
     codes "$title" ∷ codes "$ontext" ∷ codes "$offtext" ∷ codes "$offsymxref" ∷ codes "$offsymlist" ∷ codes "$offlisting" ∷ codes "$onlisting" ∷ codes "$offupper" ∷ codes "$onupper" ∷ codes "$eject" ∷ []
 
--- the word is one of these words, letter case ignored
+-- whether the word is one of these words, letter case ignored
 abbrev pub is_word_among : List ℕ → List (List ℕ) → Bool
 is_word_among word words = list_any (λ other. str_eq_ignore_ascii_case word other) words

@@ -36,7 +36,8 @@ any_of kinds = one (is_terminal_among kinds)
 abbrev pub name : Part Terminal Nonterminal
 name = any_of (Name ∷ Suffix ∷ [])
 
--- a word that begins no statement, reserved or not
+-- a word that begins no statement, reserved or not; the words that the language leaves out
+-- (`NotInProfile`) are excluded
 abbrev pub word : Part Terminal Nonterminal
 word =
     any_of

@@ -323,7 +323,7 @@ leading_rank Domain = 0
 leading_rank DomainList = 1
 leading_rank DomainPosition = 0
 
--- the tables above in one record: what is known of each nonterminal, so that one token of
--- look-ahead decides how to continue
+-- the tables `firsts`, `follows`, `is_empty`, `least_depth` and `leading_rank` in one record: what
+-- is known of each nonterminal, so that one token of look-ahead decides how to continue
 abbrev pub look_ahead : LookAhead Terminal Nonterminal
 look_ahead = record { first = λ n. is_terminal_among (firsts n); follow = λ n. is_terminal_among (follows n); empty = is_empty; depth = least_depth; rank = leading_rank }

@@ -11,11 +11,11 @@ use Rattle.gms_grammar.specs.declared.fault.ByteFault.{ByteFault}
 use Rattle.gms_grammar.specs.ControlWords.{control_words, is_word_among}
 use Rattle.gms_grammar.specs.Lines.{content, class_of, first_word, closes, opens, inside_after, lines}
 
--- the greatest number of bytes of a line, its end not counted
+-- the greatest number of bytes that a line may have, its end not counted
 abbrev pub longest_line : ℕ
 longest_line = 32768
 
--- a control character other than tab
+-- whether a byte is a control character other than tab
 abbrev pub is_control_byte : ℕ → Bool
 is_control_byte b = (nat_lt b 32 && not (b == 9)) || b == 127
 
@@ -34,8 +34,9 @@ is_unknown_control Comment line = false
 is_unknown_control Code line = false
 
 -- The line has this error at its byte k. `inside` is whether the line is inside a block of comment,
--- and `others` are the lines after it. A block that is not ended, a long line and an unknown
--- control word are at byte 0.
+-- and `others` are the lines after it. BadByte is at the bad byte; a block that is not ended
+-- (OpenText), a long line and an unknown control word are at byte 0. OpenQuote and LongLabel are no
+-- errors of a line.
 abbrev pub IsLineError : Bool → List ℕ → List (List ℕ) → ℕ → LexError → Type 0
 IsLineError inside line others k BadByte = (k < length (content line)) × (is_bad (class_of inside line) (get_or (content line) k 0) ≡ true)
 IsLineError inside line others k OpenText = (k ≡ 0) × (opens inside line ≡ true) × (list_any closes others ≡ false)

@@ -17,12 +17,12 @@ abbrev pub lines : List ℕ → List (List ℕ)
 lines [] = []
 lines (b ∷ text) = if b == 10 then (b ∷ []) ∷ lines text else put_first b (lines text)
 
--- the text begins with a byte that passes the test
+-- whether the text begins with a byte that passes the test
 abbrev pub begins : (ℕ → Bool) → List ℕ → Bool
 begins test [] = false
 begins test (b ∷ text) = test b
 
--- a text begins with a line end: a line feed, or a carriage return directly before one
+-- whether a text begins with a line end: a line feed, or a carriage return directly before one
 abbrev pub is_line_end : List ℕ → Bool
 is_line_end [] = false
 is_line_end (b ∷ text) = b == 10 || (b == 13 && begins (λ c. c == 10) text)
@@ -37,7 +37,7 @@ before test (b ∷ text) = if test (b ∷ text) then 0 else 1 + before test text
 abbrev pub content : List ℕ → List ℕ
 content line = take (before is_line_end line) line
 
--- space or tab
+-- whether a byte is a space or a tab
 abbrev pub is_blank : ℕ → Bool
 is_blank b = b == 32 || b == 9
 
@@ -53,7 +53,8 @@ abbrev pub class_of : Bool → List ℕ → Class
 class_of true line = Comment
 class_of false line = class_by_column line
 
--- the first word of a line: its bytes up to a blank or its end
+-- the first word of a line: its bytes before the first space or tab; all bytes before the line end
+-- if it has neither
 abbrev pub first_word : List ℕ → List ℕ
 first_word line = take_while (λ b. not (is_blank b)) (content line)
 
@@ -72,7 +73,8 @@ abbrev pub inside_after : Bool → List ℕ → Bool
 inside_after true line = not (closes line)
 inside_after false line = opens false line
 
--- a blank in place of the byte, except of a tab and of a line end, so that each column stays
+-- a space in place of the byte; a tab, a line feed and a carriage return stay, so that each column
+-- stays
 abbrev pub blanked : ℕ → ℕ
 blanked b = if b == 9 || (b == 10 || b == 13) then b else 32
 

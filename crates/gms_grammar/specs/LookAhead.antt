@@ -17,7 +17,7 @@ pub record LookAhead (C N : Type 0) : Type 0 where
   pub rank : N → ℕ
 
 module _ {C N : Type 0} (ahead : LookAhead C N) where
-  -- whether a part derives the empty list of tokens
+  -- whether a part derives the empty list of tokens; for a nonterminal the table `ahead` decides
   abbrev pub may_be_empty : Part C N → Bool
   may_be_empty (one test) = false
   may_be_empty (the n) = ahead.empty n
@@ -26,7 +26,7 @@ module _ {C N : Type 0} (ahead : LookAhead C N) where
   may_be_empty (opt p) = true
   may_be_empty (many p) = true
 
-  -- whether a part can begin with a token of a kind
+  -- whether a part can begin with a token of a kind; for a nonterminal the table `ahead` decides
   abbrev pub may_begin : Part C N → C → Bool
   may_begin (one test) c = test c
   may_begin (the n) c = ahead.first n c
@@ -35,8 +35,8 @@ module _ {C N : Type 0} (ahead : LookAhead C N) where
   may_begin (opt p) c = may_begin p c
   may_begin (many p) c = may_begin p c
 
-  -- whether a token of a kind can come next before the part `q`: `q` can begin with it, or `q` can
-  -- be empty and the token can come after it
+  -- whether a token of a kind can be the next one before the part `q`: `q` can begin with it, or
+  -- `q` can be empty and the kind passes `after`, the test of the tokens that can follow `q`
   abbrev pub may_come_next : Part C N → (C → Bool) → C → Bool
   may_come_next q after c = may_begin q c || (may_be_empty q && after c)
 
@@ -46,7 +46,8 @@ module _ {C N : Type 0} (ahead : LookAhead C N) where
 
   -- One token decides how to continue in a part, where `after` is the test that each token after
   -- the part passes. Alternatives are not empty, and no token begins both. What may be left out or
-  -- repeated is not empty, and no token that begins it may follow it.
+  -- repeated is not empty, and no token that begins it may follow it. Some kind of token passes the
+  -- test of a single token. Each token after a nonterminal is one that `ahead.follow` allows.
   abbrev pub IsDecided : Part C N → (C → Bool) → Type 0
   IsDecided (one test) after = (c : C) × (test c ≡ true)
   IsDecided (the n) after = (c : C) → after c ≡ true → ahead.follow n c ≡ true
@@ -56,8 +57,8 @@ module _ {C N : Type 0} (ahead : LookAhead C N) where
   IsDecided (opt p) after = (may_be_empty p ≡ false) × Apart (may_begin p) after × IsDecided p after
   IsDecided (many p) after = (may_be_empty p ≡ false) × Apart (may_begin p) after × IsDecided p (λ c. may_begin p c || after c)
 
-  -- whether some tree of the part has, at its outermost level, only nonterminals with a depth below
-  -- the bound
+  -- whether some tree of the part has, at its outermost level, only nonterminals with a depth
+  -- (`ahead.depth`) below the bound
   abbrev pub ends_below : ℕ → Part C N → Bool
   ends_below bound (one test) = true
   ends_below bound (the n) = nat_lt (ahead.depth n) bound
@@ -66,7 +67,8 @@ module _ {C N : Type 0} (ahead : LookAhead C N) where
   ends_below bound (opt p) = true
   ends_below bound (many p) = true
 
-  -- whether all nonterminals with which the part can begin have a rank below the bound
+  -- whether all nonterminals with which the part can begin have a rank (`ahead.rank`) below the
+  -- bound
   abbrev pub ranks_below : ℕ → Part C N → Bool
   ranks_below bound (one test) = true
   ranks_below bound (the n) = nat_lt (ahead.rank n) bound
@@ -75,8 +77,9 @@ module _ {C N : Type 0} (ahead : LookAhead C N) where
   ranks_below bound (opt p) = ranks_below bound p
   ranks_below bound (many p) = ranks_below bound p
 
-  -- What `ahead` claims of each nonterminal holds for these productions, and one token decides each
-  -- production.
+  -- What `ahead` claims of each nonterminal holds for these productions; only `ahead.follow` may
+  -- allow more tokens than can follow. One token decides each production, where `ahead.follow` is
+  -- the test of the tokens after it.
   pub record DecidesEach (production : N → Part C N) : Type 0 where
     pub first_is : (n : N) (c : C) → may_begin (production n) c ≡ ahead.first n c
     pub empty_is : (n : N) → may_be_empty (production n) ≡ ahead.empty n

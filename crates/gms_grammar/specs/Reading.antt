@@ -12,13 +12,15 @@ pub data Found (T : Type 0) : Type 0 where
   stuck : List T → List T → Found T
 
 module _ {C N D : Type 0} (production : N → Part C N) (ahead : LookAhead C N) where
-  -- whether the part can begin with the first of the tokens; false without tokens
+  -- whether the part can begin, by the table `ahead`, with the first of the tokens; false without
+  -- tokens
   abbrev pub leads : Part C N → List (C × D) → Bool
   leads p [] = false
   leads p (token ∷ tokens) = may_begin ahead p token.0
 
-  -- What a predictive reader finds for a part at the start of the tokens: it enters a part if the
-  -- part can begin with the next token; else it omits the part or is stuck.
+  -- What a predictive reader finds for a part at the start of the tokens. It enters an alternative,
+  -- or what may be left out or repeated, only if that can begin with the next token. It is stuck
+  -- where no alternative can, and where no next token passes the test of a single token.
   pub data Reads : Part C N → List (C × D) → Found (C × D) → Type 0 where
     taken : {test : C → Bool} {token : C × D} {rest : List (C × D)} →
         test token.0 ≡ true → Reads (one test) (token ∷ rest) (read (leaf token) rest)
@@ -58,7 +60,8 @@ module _ {C N D : Type 0} (production : N → Part C N) (ahead : LookAhead C N) 
         Reads p tokens (read a between) → Reads (many p) between (stuck prefix rest) → Reads (many p) tokens (stuck (yield a ++ prefix) rest)
 
   -- While it reads a part from the tokens, a reader has at some time read `prefix`, which is at
-  -- least one token; `rest` follows it.
+  -- least one token; `rest` follows it. It has read each earlier part as in `Reads`, but no test of
+  -- the next token decides here whether it enters a part.
   pub data Takes : Part C N → List (C × D) → List (C × D) → List (C × D) → Type 0 where
     takes_one : {test : C → Bool} {token : C × D} {rest : List (C × D)} →
         test token.0 ≡ true → Takes (one test) (token ∷ rest) (token ∷ []) rest

@@ -18,7 +18,8 @@ pub record Rule (D W E R : Type 0) : Type 1 where
   -- a token that the grammar expects has the fault, by the state before it and the kind of the
   -- token that follows
   pub Faulty : W → Terminal × D → Terminal → E → Type 0
-  -- the fault of the first of these tokens, if the grammar does not expect it
+  -- the fault of the first of these tokens, if the grammar does not expect it; without tokens, that
+  -- of an unexpected end
   pub unexpected : List (Terminal × D) → E
   -- the result that reports a fault
   pub told : E → R
@@ -33,6 +34,7 @@ abbrev pub kind_of : {D : Type 0} → List (Terminal × D) → Terminal
 kind_of tokens = kind_ahead tokens End
 
 -- the state after the tokens, from the state w before them, if a token of the kind `ahead` follows
+-- them; `after` gives the state after each single token
 abbrev pub left_by : {D W : Type 0} → (W → Terminal × D → Terminal → W) → W → List (Terminal × D) → Terminal → W
 left_by after w [] ahead = w
 left_by after w (token ∷ tokens) ahead = left_by after (after w token (kind_ahead tokens ahead)) tokens ahead
@@ -53,8 +55,9 @@ module _ {K D W E R : Type 0} (rules : K → Rule D W E R) (key : K) where
     pub are_sound : AreFaultless (rules key) w (yield tree) (kind_of rest)
     pub leaves : v ≡ left_by (rules key).after w (yield tree) (kind_of rest)
 
-  -- Reading the part from the tokens stops at an unexpected token, `fault` is the fault of that
-  -- token, and no token before it has a fault. The state is w before the part.
+  -- Reading the part from the tokens stops after `prefix`: the first token of `rest` is unexpected,
+  -- or, if `rest` is empty, the end is. `fault` is the fault of that by the rule that `rules` gives
+  -- for `key`, and no token of `prefix` has a fault. The state is w before the part.
   pub record IsStuck (part : Part Terminal Nonterminal) (w : W) (tokens : List (Terminal × D)) (fault : E) : Type 0 where
     pub prefix : List (Terminal × D)
     pub rest : List (Terminal × D)
@@ -62,8 +65,8 @@ module _ {K D W E R : Type 0} (rules : K → Rule D W E R) (key : K) where
     pub are_sound : AreFaultless (rules key) w prefix (kind_of rest)
     pub is : fault ≡ (rules key).unexpected rest
 
-  -- A token that the reader reads for the part has the fault `fault`, and no token before it has a
-  -- fault. The state is w before the part.
+  -- A token that the reader reads for the part has the fault `fault` by the rule that `rules` gives
+  -- for `key`, and no token before it has a fault. The state is w before the part.
   pub record IsWrong (part : Part Terminal Nonterminal) (w : W) (tokens : List (Terminal × D)) (fault : E) : Type 0 where
     pub before : List (Terminal × D)
     pub token : Terminal × D
@@ -72,20 +75,21 @@ module _ {K D W E R : Type 0} (rules : K → Rule D W E R) (key : K) where
     pub are_sound : AreFaultless (rules key) w before token.0
     pub is_faulty : (rules key).Faulty (left_by (rules key).after w before token.0) token (kind_of following) fault
 
-  -- The result in place of the part is right: a fault that it reports is that of the first
-  -- unexpected token or that of the first faulty one. Out of memory reports no fault.
+  -- The result `refusal` in place of the part is right: a fault that it reports is that of the
+  -- first unexpected token (`IsStuck`) or that of the first faulty one (`IsWrong`). Out of memory
+  -- reports no fault.
   pub record Refuses (part : Part Terminal Nonterminal) (w : W) (tokens : List (Terminal × D)) (refusal : R) : Type 0 where
     pub why : (fault : E) → refusal ≡ (rules key).told fault → IsStuck part w tokens fault ⊎ IsWrong part w tokens fault
 
   -- To read `part` from `tokens` in the state w, it remains to read `inner` from `rest` in the
-  -- state v. If `inner` is read as a tree a, then `part` is read as the tree `context a`; and a
-  -- result that refuses `inner` refuses `part`.
+  -- state v. If `inner` is read as a tree a, then `part` is read as the tree `context a`, with the
+  -- same state and tokens after it; and a result that refuses `inner` refuses `part`.
   pub record Within (part : Part Terminal Nonterminal) (w : W) (tokens : List (Terminal × D)) (inner : Part Terminal Nonterminal) (v : W) (rest : List (Terminal × D)) (context : DerivationTree (Terminal × D) → DerivationTree (Terminal × D)) : Type 0 where
     pub gives : (a : DerivationTree (Terminal × D)) (x : W) (last : List (Terminal × D)) → IsPartRead inner v rest a x last → IsPartRead part w tokens (context a) x last
     pub refuses : (e : R) → Refuses inner v rest e → Refuses part w tokens e
 
-  -- The fault is that of the first faulty token of `prefix`, read from the state w, if a token of
-  -- the kind `ahead` follows `prefix`.
+  -- The fault is that of the first faulty token of `prefix`, read from the state w, by the rule
+  -- that `rules` gives for `key`, if a token of the kind `ahead` follows `prefix`.
   pub record IsFirstFaulty (w : W) (prefix : List (Terminal × D)) (ahead : Terminal) (fault : E) : Type 0 where
     pub before : List (Terminal × D)
     pub token : Terminal × D
@@ -94,18 +98,21 @@ module _ {K D W E R : Type 0} (rules : K → Rule D W E R) (key : K) where
     pub are_sound : AreFaultless (rules key) w before token.0
     pub is_faulty : (rules key).Faulty (left_by (rules key).after w before token.0) token (kind_ahead following ahead) fault
 
-  -- None of the tokens of `prefix` has a fault, and `fault` is that of the next token, the first of
-  -- `rest`, which is unexpected. The proposition `Wants` holds; it states that `prefix` is not
-  -- complete.
+  -- None of the tokens of `prefix`, read from the state w, has a fault by the rule that `rules`
+  -- gives for `key`, and `fault` is that of the next token, the first of `rest`, which is
+  -- unexpected, or, if `rest` is empty, that of the end. The proposition `Wants` holds; it is to
+  -- state that the grammar requires a token after `prefix`.
   pub record IsUnexpectedByRule (Wants : Type 0) (w : W) (prefix rest : List (Terminal × D)) (fault : E) : Type 0 where
     pub needs : Wants
     pub are_sound : AreFaultless (rules key) w prefix (kind_of rest)
     pub is : fault ≡ (rules key).unexpected rest
 
-  -- `fault` is the first fault of the tokens, read as the nonterminal n. Let `prefix` be their
-  -- longest prefix that begins something n derives. Either the fault is that of the first faulty
-  -- token of `prefix`; or `prefix` has no fault and is not complete, as `Wants` states, and the
-  -- fault is that of the next token, which is unexpected.
+  -- `fault` is the first fault of the tokens, read as the nonterminal n from the state w, by the
+  -- rule that `rules` gives for `key`. Let `prefix` be their longest prefix that begins something n
+  -- derives, and `rest` the tokens after it. Either the fault is that of the first faulty token of
+  -- `prefix`; or `prefix` has no fault, `Wants` holds, which is to state that n requires a token
+  -- after `prefix`, and the fault is that of the next token, which is unexpected, or, without one,
+  -- of the end.
   pub record IsRefusedByRule (Wants : List (Terminal × D) → List (Terminal × D) → Type 0) (n : Nonterminal) (w : W) (tokens : List (Terminal × D)) (fault : E) : Type 0 where
     pub prefix : List (Terminal × D)
     pub rest : List (Terminal × D)

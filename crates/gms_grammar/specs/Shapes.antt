@@ -29,17 +29,17 @@ lexeme piece length = Ok record { piece = piece; length = length }
 abbrev pub misread : LexError → ℕ → Read
 misread error ahead = Err record { error = error; ahead = ahead }
 
--- a piece has at least one byte and at most all of the text; an error is at one of its bytes, or at
--- its end
+-- a piece has at least one byte and at most all of the text; an error is at one of the text's
+-- bytes, or at the text's end
 abbrev pub IsWithinText : List ℕ → Read → Type 0
 IsWithinText text (Ok p) = (0 < p.length) × (p.length ≤ length text)
 IsWithinText text (Err m) = m.ahead ≤ length text
 
--- the greatest number of bytes of a name or a label, quotation marks not counted
+-- the greatest number of bytes that a name or a label may have, quotation marks not counted
 abbrev pub longest_label : ℕ
 longest_label = 63
 
--- a word or a label of `length` bytes; LongLabel if that is over 63
+-- a token of this kind, a word or a label, of `length` bytes; LongLabel if that is over 63
 abbrev pub bounded : Kind → ℕ → Read
 bounded kind length = if nat_lt longest_label length then misread LongLabel 0 else lexeme (Token kind) length
 
@@ -48,7 +48,7 @@ abbrev pub symbol_read : Option (ℕ × Sym) → Read
 symbol_read None = misread BadByte 0
 symbol_read (Some symbol) = lexeme (Token (Symbol symbol.1)) symbol.0
 
--- the longest symbol with which a text begins; a character that begins none is a bad byte
+-- the longest symbol with which a text begins; BadByte if it begins with none
 abbrev pub symbol : List ℕ → Read
 symbol text = symbol_read (longest_symbol text)
 
@@ -60,19 +60,21 @@ quoted_length mark text = prefix_len (λ b. not (b == mark || b == 10)) text
 abbrev pub is_closed : ℕ → List ℕ → Bool
 is_closed mark text = begins (λ b. b == mark) (drop (quoted_length mark text) text)
 
--- whether a piece is a label, and so has at most 63 bytes
+-- whether a piece is a label
 abbrev pub is_label : Piece → Bool
 is_label (Token Label) = true
 is_label piece = false
 
 -- The quoted piece with `inner` bytes between its quotation marks, of which the first `plain` are
--- ASCII. OpenQuote if it is not `closed` on its line, LongLabel if a label has over 63 of them,
--- BadByte at the first of them that is not ASCII.
+-- ASCII. OpenQuote if it is not `closed` on its line; otherwise LongLabel if it is a label and
+-- `inner` is over 63; otherwise BadByte at the first byte between the marks that is not ASCII, if
+-- `plain` is less than `inner`.
 abbrev pub quoted_of : Piece → Bool → ℕ → ℕ → Read
 quoted_of piece closed inner plain =
     if not closed then misread OpenQuote 0 else (if is_label piece && nat_lt longest_label inner then misread LongLabel 0 else (if nat_lt plain inner then misread BadByte (1 + plain) else lexeme piece (inner + 2)))
 
--- the quoted piece with which a text begins; its first byte is the quotation mark
+-- the quoted piece with which a text begins; its first byte is the quotation mark. BadByte if the
+-- text is empty
 abbrev pub quoted : Piece → List ℕ → Read
 quoted piece [] = misread BadByte 0
 quoted piece (mark ∷ text) =

@@ -9,7 +9,7 @@ use Rattle.gms_grammar.specs.declared.split_fields.Separator.TheVariants.{Semico
 use Rattle.gms_grammar.specs.declared.split_fields.SplitState.{SplitState}
 use Rattle.gms_grammar.specs.declared.split_fields.SplitState.TheVariants.{First, Marked, Inner}
 
--- a dot
+-- whether a byte is a dot
 abbrev pub is_dot : ℕ → Bool
 is_dot b = b == 46
 

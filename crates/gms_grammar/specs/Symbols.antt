@@ -39,7 +39,7 @@ symbols =
     Power ∷ DotDot ∷ LessEq ∷ GreaterEq ∷ NotEq ∷ PlusPlus ∷ MinusMinus ∷
     Plus ∷ Minus ∷ Star ∷ Slash ∷ Equals ∷ Less ∷ Greater ∷ LeftParen ∷ RightParen ∷ Comma ∷ Semicolon ∷ Dot ∷ Dollar ∷ []
 
--- whether a text begins with these bytes, letter case ignored
+-- whether a text begins with the bytes `prefix`, letter case ignored
 abbrev pub begins_with_word : List ℕ → List ℕ → Bool
 begins_with_word text prefix = nat_le (length prefix) (length text) && str_eq_ignore_ascii_case (take (length prefix) text) prefix
 

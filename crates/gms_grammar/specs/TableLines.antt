@@ -11,7 +11,7 @@ use Rattle.gms_grammar.specs.Bytes.{is_ascii}
 use Rattle.gms_grammar.specs.Shapes.{Read, lexeme, misread}
 
 -- how many bytes of a line belong to the table: those before the first `;` outside quoted labels,
--- or all
+-- or all if there is no such `;`
 abbrev pub table_bytes : List ℕ → ℕ
 table_bytes line = field_bytes (is_separator Semicolon) line
 

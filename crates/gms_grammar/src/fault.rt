@@ -4,7 +4,7 @@ ghost use Rattle.gms_grammar.specs.Errors.{lex_error_code, lex_error_name};
 
 use thiserror::Error;
 
-/// A lexical error, by its cause.
+/// The kind of a lexical error, named for its cause.
 #[derive(Clone, Copy, Debug, Error)]
 pub enum LexError {
     /// A byte that cannot occur here: a control character other than tab; a byte above 127 outside

@@ -7,7 +7,8 @@ ghost use Rattle.gms_grammar.specs.GamsGrammar.{Nonterminal, Program, NamedState
 ghost use Rattle.gms_grammar.specs.PlainGrammar.{plain_program, plain_named, plain_body, plain_items};
 ghost use Rattle.gms_grammar.specs.GamsLookAhead.{look_ahead};
 
-/// Each list of tokens has at most one derivation tree, and at most one first unexpected token.
+/// Each list of tokens has at most one derivation tree, and at most one first unexpected token. A
+/// token is a terminal and a datum of the type `D`; `stops` needs some datum.
 ///
 /// `one_tree`: a nonterminal derives a list of tokens by at most one tree. `stops` and
 /// `stops_once`: each list of tokens has exactly one longest prefix that begins something the
@@ -22,7 +23,8 @@ pub fn derivation_laws<D>()
 {}
 
 /// What a predictive reader finds in a list of tokens. It decides by one token, and never goes
-/// back.
+/// back. A token is a terminal and a datum of the type `D`; the laws that begin with `D` need some
+/// datum.
 ///
 /// `finds`: the reader finds something in each list of tokens: a tree, or it is stuck. `tree` and
 /// `longest`: a tree that it finds is one of the nonterminal, and the tokens of the tree are the

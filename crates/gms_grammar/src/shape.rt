@@ -36,8 +36,8 @@ fn is_label_byte(byte: u8) -> bool
     byte.is_ascii_alphanumeric() || matches!(byte, b'+' | b'-' | b'_')
 }
 
-/// The length in bytes of the longest prefix of a text that consists of letters, digits, `+`, `-`
-/// and `_`, the bytes of an unquoted label.
+/// The length in bytes of the longest prefix of a text in which each byte may occur in an unquoted
+/// label: a letter, a digit, `+`, `-` or `_`.
 pub fn label_length(text: &[u8]) -> usize
     ensures value { result ≡ prefix_len is_label_byte text.now }
     ensures within { result ≤ length text.now }
@@ -103,8 +103,8 @@ fn bounded(kind: Kind, length: usize) -> Result<Lexeme, Misread>
     })
 }
 
-/// The longest symbol with which a text begins. The error `BadByte` comes if the text begins with
-/// no symbol.
+/// The longest symbol, an operator or a delimiter, with which a text begins. The error `BadByte`
+/// comes if the text begins with no symbol.
 pub fn read_symbol(text: &[u8]) -> Result<Lexeme, Misread>
     ensures { result ≡ symbol text.now }
 {
@@ -177,12 +177,13 @@ fn quoted(piece: Piece, text: &[u8]) -> Result<Lexeme, Misread>
     quoted_of(piece, is_closed(*mark, rest), inner, plain)
 }
 
-/// The token of code with which a text begins: a word, a number, a quoted token, or a symbol.
-/// `kind` is the kind that a quoted token gets: a label, or a text.
+/// The token of code with which a text begins: a word, a number, a quoted token, or a symbol, that
+/// is, an operator or a delimiter. `kind` is the kind that a quoted token gets: a label, or a text.
 ///
 /// The errors are `BadByte` at a character that begins no token, and at a byte above 127 in a
 /// quoted token; `OpenQuote` at a quotation mark that does not occur again on its line; and
-/// `LongLabel` at a word of over 63 bytes, and at a quoted label of over 63 bytes.
+/// `LongLabel` at a word of over 63 bytes, and at a quoted label of over 63 bytes. If a quoted
+/// token has several, `OpenQuote` comes first, then `LongLabel`, then the first `BadByte`.
 pub fn code_token(kind: Kind, text: &[u8]) -> Result<Lexeme, Misread>
     ensures { result ≡ code_token kind text.now }
 {
@@ -202,11 +203,12 @@ pub fn code_token(kind: Kind, text: &[u8]) -> Result<Lexeme, Misread>
 }
 
 /// The token with which a text begins where an element of a list is expected: a label, unquoted or
-/// quoted, or a symbol.
+/// quoted, or a symbol, that is, an operator or a delimiter.
 ///
 /// The errors are `BadByte` at a character that begins no token, and at a byte above 127 in a
 /// quoted label; `OpenQuote` at a quotation mark that does not occur again on its line; and
-/// `LongLabel` at a label of over 63 bytes.
+/// `LongLabel` at a label of over 63 bytes. If a quoted label has several, `OpenQuote` comes first,
+/// then `LongLabel`, then the first `BadByte`.
 pub fn label_token(text: &[u8]) -> Result<Lexeme, Misread>
     ensures { result ≡ label_token text.now }
 {
@@ -223,7 +225,8 @@ pub fn label_token(text: &[u8]) -> Result<Lexeme, Misread>
 /// an unquoted one ends before the first `/`, `,` or `;`, or at the end of the line.
 ///
 /// The errors are `OpenQuote` at a quotation mark that does not occur again on its line, and
-/// `BadByte` at a byte above 127 in a quoted text, and where an unquoted text would be empty.
+/// `BadByte` at the first byte above 127 in a quoted text that is closed, and where an unquoted
+/// text would be empty.
 pub fn remark(text: &[u8]) -> Result<Lexeme, Misread>
     ensures { result ≡ remark text.now }
 {

@@ -243,7 +243,7 @@ abbrev pub leading_rank : Nonterminal → ℕ""")
 for n in names:
     print(f"leading_rank {n} = {rank[n]}")
 print("""
--- the tables above in one record: what is known of each nonterminal, so that one token of
--- look-ahead decides how to continue
+-- the tables `firsts`, `follows`, `is_empty`, `least_depth` and `leading_rank` in one record: what
+-- is known of each nonterminal, so that one token of look-ahead decides how to continue
 abbrev pub look_ahead : LookAhead Terminal Nonterminal
 look_ahead = record { first = λ n. is_terminal_among (firsts n); follow = λ n. is_terminal_among (follows n); empty = is_empty; depth = least_depth; rank = leading_rank }""")

@@ -1,6 +1,6 @@
 -- After the tokens of a program no list of data is open.
 use Rattle.std.proofs.lemmas.Bool.{false_from_ne_true}
-use Rattle.std.proofs.Common.{◌≡◌, ℕ, zero, suc, Bool, true, false, List, [], ◌∷◌, length, get_or, ◌<◌, ltb, refl, sym, ap, ◌∙◌, subst, arith, ltb-true, inl, inr}
+use Rattle.std.proofs.Common.{◌≡◌, ℕ, zero, suc, true, false, List, [], ◌∷◌, length, get_or, ◌<◌, ltb, refl, sym, ap, ◌∙◌, subst, arith, ltb-true, inl, inr}
 use Rattle.gms_lex.specs.declared.mode.Mode.{Mode}
 use Rattle.gms_lex.specs.declared.mode.Mode.TheVariants as mode
 use Rattle.gms_lex.specs.declared.token.Token.{Token}

@@ -11,11 +11,13 @@ use Rattle.gms_grammar.specs.Grammar.{the, DerivationTree, leaf, pair, more, nod
 use Rattle.gms_grammar.specs.GamsGrammar.{Program, productions}
 use Rattle.gms_expressions.specs.Outcomes.{kinded_tokens}
 
--- the joint source: the saved source, a line end, a line with `;`, and the file that continues it
+-- the joint source of a saved source and a file that continues it: the saved source, a line end, a
+-- line with `;`, and the file
 abbrev pub joint_source : List ℕ → List ℕ → List ℕ
 joint_source saved file = saved ++ (10 ∷ 59 ∷ 10 ∷ file)
 
--- the line of a joint source at which the file begins
+-- the number, from 1, of the line of a joint source at which the file that continues the saved
+-- source begins
 abbrev pub first_line : List ℕ → ℕ
 first_line saved = length (filter (λ byte. byte == 10) saved) + 3
 
@@ -40,8 +42,8 @@ pub record DerivesSource (source : List ℕ) (tokens : List Token) (tree : Deriv
   pub is_tree : IsTree productions (the Program) tree
   pub yields : kinded_tokens source tokens ≡ yield tree ++ (End, end) ∷ []
 
--- the first repetition, of semicolons with a segment after each, with the repetition `tree`
--- appended
+-- a repetition with another one, `tree`, appended. The items of both are a `;` with a segment of
+-- statements after it
 abbrev pub attach : {T : Type 0} → DerivationTree T → DerivationTree T → DerivationTree T
 attach (more first others) tree = more first (attach others tree)
 attach _ tree = tree

@@ -4,8 +4,9 @@ ghost use Rattle.gms_parse.specs.Outcomes.{ProgramView, HasProgram};
 ghost use Rattle.gms_joint_source.specs.JointSources.{joint_source};
 ghost use Rattle.gms_joint_source.specs.Programs.{IsProgramPrefix};
 
-/// If a saved source and a joint source are programs, the joint program begins with the saved one.
-/// Its names and labels are those of the saved program, perhaps followed by more, so that each
+/// A joint source is a saved source, a line with `;`, and a file that continues the saved source.
+/// If the saved source and the joint source are programs, the joint program begins with the saved
+/// one. Its names and labels are those of the saved program, perhaps followed by more, so that each
 /// saved name and label has the same number in both. Its statements are those of the saved program
 /// followed by others, whatever the saved source ends in (GAMS User's Guide, "Save and Restart").
 pub fn joint_program_laws()

@@ -68,7 +68,8 @@ impl Labels {
         }
     }
 
-    /// How many labels there are.
+    /// How many labels there are: at most 65,536. Each has at most 63 bytes, and no two are the
+    /// same when letter case is ignored (`labels`).
     pub fn len(&self) -> u32
         ensures len { result ≡ length self.now }
         ensures labels { AreLabels self.now }
@@ -99,7 +100,8 @@ impl Labels {
         ensures full { IsErrOf result LabelFault.Full ↔ IsFullFor self.old text.now }
         ensures err { OnErr result (self.new ≡ self.old) }
 
-        // Places stay.
+        // Places stay, and so does the invariant of a table: at most 65,536 labels of at most 63
+        // bytes, of which no two are the same when letter case is ignored.
         ensures keeps { (other : List ℕ) (n : ℕ) → place_of self.old other ≡ Some n → place_of self.new other ≡ Some n }
         ensures labels { AreLabels self.new }
     {
@@ -130,7 +132,9 @@ impl Labels {
     }
 
     /// The position of a text in the table, from 0, letter case ignored; `None` exactly if the
-    /// table does not have the text. The text has at most 63 bytes.
+    /// table does not have the text. The text has at most 63 bytes. `labels` is the invariant of a
+    /// table: at most 65,536 labels of at most 63 bytes, of which no two are the same when letter
+    /// case is ignored.
     pub fn find(&self, text: &str) -> Option<u32>
         requires { length text.now ≤ most_label_bytes }
         ensures place { result ≡ place_of self.now text.now }

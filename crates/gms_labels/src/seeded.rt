@@ -40,9 +40,9 @@ impl BuildHasher for Seeded {
 
 /// The seed for the tables of labels of a source: SipHash-1-3 of the bytes of the source.
 ///
-/// The same source has the same seed, so each run does the same. An author who chooses labels that
-/// all have the same hash under some seed changes the bytes of the source by this choice, and so
-/// the seed.
+/// The same source has the same seed, so its labels have the same hashes in each run. An author who
+/// chooses labels that all have the same hash under some seed changes the bytes of the source by
+/// this choice, and so the seed.
 pub fn source_seed(source: &[u8]) -> u64
     ensures { result ≡ sip.finish (sip.write sip.initial source.now) }
 {

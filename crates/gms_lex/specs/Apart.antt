@@ -25,8 +25,8 @@ IsSkipped text = (list_all is_space text ≡ true) ⊎ IsText text
 abbrev pub AreSkipped : List ℕ → Type 0
 AreSkipped text = (parts : List (List ℕ)) × (text ≡ concat parts) × AllByRecursion IsSkipped parts
 
--- The tokens follow each other in the text, the first at byte `from` or after it, and only blanks,
--- line ends and descriptive texts separate them.
+-- The tokens follow each other in the text, the first at byte `from` or after it. Only blanks, line
+-- ends and descriptive texts come between `from` and the first token, and between two tokens.
 abbrev pub AreApart : List ℕ → ℕ → List Token → Type 0
 AreApart text from [] = Unit {0}
 AreApart text from (token ∷ tokens) =
@@ -42,14 +42,14 @@ IsOneLineEnd text = (text ≡ 10 ∷ []) ⊎ (text ≡ 13 ∷ 10 ∷ [])
 
 -- a line end of this meaning ends an item, or an element, before the text `following`, which comes
 -- after all blanks and line ends: this text begins with a byte, but not with `/` or `,`, and not
--- with `;` after an item
+-- with `;` after an item; a line end without meaning (`Skipped`) ends nothing
 abbrev pub IsEnding : LineEnds → List ℕ → Type 0
 IsEnding Skipped following = ⊥
 IsEnding EndItem following = begins (λ b. not (b == 47 || (b == 44 || b == 59))) following ≡ true
 IsEnding EndElement following = begins (λ b. not (b == 47 || b == 44)) following ≡ true
 
--- A line end with which a text begins is a token in this mode: after a declared name or in a list
--- it ends the item, or the element, unless only blanks and line ends follow, or the next other byte
--- itself ends the item or the element, or begins the item's list.
+-- A line end with which a text begins is a token in this mode: it may end an item or an element
+-- here (`line_ends`), and after all blanks and line ends a byte follows that does not itself end
+-- the item or the element, or begin the item's list.
 abbrev pub IsBreak : Mode → List ℕ → Type 0
 IsBreak mode text = (is_line_end text ≡ true) × IsEnding (line_ends mode) (drop (space_length text) text)

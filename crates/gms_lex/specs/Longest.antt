@@ -46,23 +46,27 @@ IsMarkOrText marks (Token (Symbol symbol)) text = (begins marks text ≡ true) �
 IsMarkOrText marks Remark text = (begins marks text ≡ false) × IsText text
 IsMarkOrText marks piece text = ⊥
 
--- The text is a token of code, which `following` follows, after an element of a parameter's list.
--- Directly after the element a dot joins a label, and begins no number.
+-- The text is a token of code, which `following` follows, after an element of a parameter's list. A
+-- quoted token is a label there. Directly after the element (`After`) a dot joins a label, and
+-- begins no number.
 abbrev pub IsValuePiece : Stage → Piece → List ℕ → List ℕ → Type 0
 IsValuePiece After (Token Number) text following = IsNumberSpelling text following × (begins_dot text ≡ false)
 IsValuePiece stage piece text following = IsCode Label piece text following
 
--- the text is this piece after an element outside parentheses: in a parameter's list one of a
--- value; in any other list a symbol that begins with `/`, `,`, `;`, `)`, `*` or `.`, or a
--- descriptive text that begins with none of these
+-- The text is this piece after an element outside parentheses. In a parameter's list, where the
+-- element's value may follow, it is as in `IsValuePiece` at this stage. In any other list it is a
+-- symbol that begins with `/`, `,`, `;`, `)`, `*` or `.`, or a descriptive text that begins with
+-- none of these.
 abbrev pub IsAfterElementPiece : Shape → Stage → Piece → List ℕ → List ℕ → Type 0
 IsAfterElementPiece Parameter stage piece text following = IsValuePiece stage piece text following
 IsAfterElementPiece Set stage piece text following = IsMarkOrText is_element_mark piece text
 IsAfterElementPiece Scalar stage piece text following = IsMarkOrText is_element_mark piece text
 IsAfterElementPiece Model stage piece text following = IsMarkOrText is_element_mark piece text
 
--- the text is a piece in a list of this shape, inside `depth` parentheses and at this stage of an
--- element; `following` follows it
+-- The text is a piece in a list of this shape, inside `depth` parentheses; `following` follows it.
+-- After an element outside parentheses (directly: `After`; after a blank: `Spaced`) it is what may
+-- follow an element there. Else, with an element or a label expected (`Fresh`, `Expected`) or
+-- inside parentheses, it is a label or a symbol.
 abbrev pub IsInList : Shape → ℕ → Stage → Piece → List ℕ → List ℕ → Type 0
 IsInList shape depth Fresh piece text following = IsElementPiece piece text
 IsInList shape depth Expected piece text following = IsElementPiece piece text
@@ -71,14 +75,22 @@ IsInList shape zero Spaced piece text following = IsAfterElementPiece shape Spac
 IsInList shape (suc depth) After piece text following = IsElementPiece piece text
 IsInList shape (suc depth) Spaced piece text following = IsElementPiece piece text
 
--- The first n bytes of the text are this piece, among the lines of a table: all of the line up to
--- the `;` that ends the table; or a token of code, if that `;` or a statement begins here.
+-- The first n bytes of the text are this piece, among the lines of a table. If no statement begins
+-- here, the piece may be a line of the table: this line, which is not empty, up to the `;` that
+-- ends the table, or all of it. If a statement, that `;` or a line end is here, the piece may be a
+-- token of code; a quoted token is a text.
 abbrev pub IsOfTable : List ℕ → Piece → ℕ → Type 0
 IsOfTable text (Token TableLine) n = (begins_statement text ≡ false) × (0 < n) × (n ≡ table_bytes (content text))
 IsOfTable text piece n =
     ((table_bytes (content text) == 0 || begins_statement text) ≡ true) × IsCode Text piece (take n text) (drop n text)
 
--- the first n bytes of a text are a token or a descriptive text that the mode allows there
+-- The first n bytes of a text are a token or a descriptive text that the mode allows there. After
+-- the name of an item or a table (`Named`, `TableNamed`) this is `(`, `/`, `,`, `;` or a
+-- descriptive text; after its domain (`Bare`, `TableBare`) the same without `(`. In a list it
+-- depends on whether an element is expected or has been read (`Element`). Where a value is expected
+-- or has begun (`Value`, `Tail`) it is a token of code, and a quoted token is a label. Where a line
+-- of a table may come (`TableLines`), `IsOfTable` holds. In each other mode it is a token of code,
+-- and a quoted token is a text.
 abbrev pub IsAllowedPiece : Mode → List ℕ → Piece → ℕ → Type 0
 IsAllowedPiece (Named shape) text piece n = IsMarkOrText (λ b. b == 40 || is_item_mark b) piece (take n text)
 IsAllowedPiece TableNamed text piece n = IsMarkOrText (λ b. b == 40 || is_item_mark b) piece (take n text)

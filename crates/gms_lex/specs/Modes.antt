@@ -17,8 +17,8 @@ use Rattle.gms_lex.specs.declared.mode.Mode.{Mode}
 use Rattle.gms_lex.specs.declared.mode.Mode.TheVariants.{Code, Item, Named, Domain, Bare, Rest, Element, Value, Tail, TableName, TableNamed, TableDomain, TableBare, TableTexted, TableLines}
 use Rattle.gms_lex.specs.Keywords.{keyword_of}
 
--- the mode where a list begins, and where it continues after a comma: an element is expected in a
--- list of a set or a parameter, a value in others
+-- the mode where a list begins, and where it continues after a comma: in a list of a set or a
+-- parameter a new element is expected (`Fresh`), inside 0 parentheses; in others a value
 abbrev pub list_start : Shape → Mode
 list_start Set = Element Set 0 Fresh
 list_start Parameter = Element Parameter 0 Fresh
@@ -32,12 +32,17 @@ begun_by (Some Table) current = TableName
 begun_by (Some Other) current = Code
 begun_by None current = current
 
--- the mode after a token that follows an element and does not continue it: outside parentheses its
--- text or value has begun, within them the list continues
+-- the mode after a token that follows an element and does not continue it: outside parentheses
+-- (`depth` is 0) the element's text or value has begun; within them the mode is that directly after
+-- an element
 abbrev pub after_element : Shape → ℕ → Mode
 after_element shape depth = if depth == 0 then Tail shape else Element shape depth After
 
--- the mode after a token that is no symbol, no line end and no keyword
+-- The mode after a token for which neither `after_token` nor `after_word` has its own rule: a
+-- label, a number, a quoted text, the end, or a word that is no keyword and no name there. After an
+-- expected element the stage is `After`; after a token that follows an element the mode is that of
+-- `after_element`; after an expected value it is `Tail`. Where a table's name is expected, after
+-- its text, and among its lines, code begins. Other modes stay.
 abbrev pub after_plain : Mode → Mode
 after_plain (Element shape depth Fresh) = Element shape depth After
 after_plain (Element shape depth Expected) = Element shape depth After
@@ -49,8 +54,10 @@ after_plain TableTexted = Code
 after_plain TableLines = Code
 after_plain current = current
 
--- the mode after a word: a keyword begins a statement, but not within a domain or a list; any other
--- word where the name of an item or a table is expected is that name
+-- the mode after a word. A keyword begins a statement in code, where an item or the name of a table
+-- is expected, after the text or the list of an item, and after the text or among the lines of a
+-- table. Any other word where a name is expected is that name, and after the text or among the
+-- lines of a table it is code. In all other modes a word is treated as in `after_plain`.
 abbrev pub after_word : Mode → List ℕ → Mode
 after_word Code word = begun_by (keyword_of word) Code
 after_word (Item shape) word = begun_by (keyword_of word) (Named shape)
@@ -60,17 +67,21 @@ after_word TableTexted word = begun_by (keyword_of word) Code
 after_word TableLines word = begun_by (keyword_of word) Code
 after_word current word = after_plain current
 
--- the mode after a symbol in an item of a declaration, outside its domain and its list
+-- the mode after a symbol in an item of a declaration, outside its domain and its list: `/` begins
+-- the list, `,` ends the item, and any other symbol leaves the mode `current`
 abbrev pub after_item_symbol : Shape → Sym → Mode → Mode
 after_item_symbol shape Slash current = list_start shape
 after_item_symbol shape Comma current = Item shape
 after_item_symbol shape symbol current = current
 
--- the mode after a comma of a list, inside `depth` parentheses
+-- the mode after a comma of a list, inside `depth` parentheses: outside them (0) the list continues
+-- as it begins; within them a label is expected
 abbrev pub after_comma : Shape → ℕ → Mode
 after_comma shape depth = if depth == 0 then list_start shape else Element shape depth Expected
 
--- the mode after a symbol where an element is expected
+-- The mode after a symbol where an element is expected, inside `depth` parentheses: `(` opens one
+-- more, `)` closes one, `,` is as in `after_comma`, and `/` ends the list. After `(`, and after any
+-- other symbol, a label is expected.
 abbrev pub after_expected_symbol : Shape → ℕ → Sym → Mode
 after_expected_symbol shape depth LeftParen = Element shape (depth + 1) Expected
 after_expected_symbol shape depth RightParen = Element shape (depth - 1) After
@@ -78,7 +89,10 @@ after_expected_symbol shape depth Comma = after_comma shape depth
 after_expected_symbol shape depth Slash = Rest shape
 after_expected_symbol shape depth symbol = Element shape depth Expected
 
--- the mode after a symbol that follows an element: a dot joins the next label, a star makes a range
+-- The mode after a symbol that follows an element, inside `depth` parentheses: `)` closes one, `,`
+-- is as in `after_comma`, and `/` ends the list. After a dot or `..`, which joins the next label,
+-- and a star or `**`, which makes a range, a label is expected. After any other symbol the mode is
+-- that of `after_element`.
 abbrev pub after_element_symbol : Shape → ℕ → Sym → Mode
 after_element_symbol shape depth RightParen = Element shape (depth - 1) After
 after_element_symbol shape depth Comma = after_comma shape depth
@@ -89,21 +103,26 @@ after_element_symbol shape depth Star = Element shape depth Expected
 after_element_symbol shape depth Power = Element shape depth Expected
 after_element_symbol shape depth symbol = after_element shape depth
 
--- the mode after a closing parenthesis where a text or value has begun
+-- The mode after a `)` that closes no parenthesis, in a list of this shape where a text or value is
+-- expected or has begun. In the list of a set or a parameter it is the mode after a label, outside
+-- parentheses; in any other the text or value continues.
 abbrev pub after_stray_paren : Shape → Mode
 after_stray_paren Set = Element Set 0 After
 after_stray_paren Parameter = Element Parameter 0 After
 after_stray_paren Scalar = Tail Scalar
 after_stray_paren Model = Tail Model
 
--- the mode after a symbol where a text or value is expected or has begun
+-- The mode after a symbol in a list of this shape, where a text or value is expected or has begun:
+-- `/` ends the list, `,` ends the element, `)` is as in `after_stray_paren`, and after any other
+-- the text or value continues.
 abbrev pub after_tail_symbol : Shape → Sym → Mode
 after_tail_symbol shape Slash = Rest shape
 after_tail_symbol shape Comma = list_start shape
 after_tail_symbol shape RightParen = after_stray_paren shape
 after_tail_symbol shape symbol = Tail shape
 
--- the mode after a symbol that follows an item's name: `(` begins its domain
+-- the mode after a symbol that follows an item's name: `(` begins the item's domain, `/` its list,
+-- `,` ends the item, and any other symbol leaves the mode unchanged
 abbrev pub after_name_symbol : Shape → Sym → Mode
 after_name_symbol shape LeftParen = Domain shape
 after_name_symbol shape symbol = after_item_symbol shape symbol (Named shape)
@@ -113,19 +132,25 @@ abbrev pub after_domain_symbol : Sym → Mode → Mode → Mode
 after_domain_symbol RightParen inside following = following
 after_domain_symbol symbol inside following = inside
 
--- the mode after a symbol that follows a table's name: `(` begins its domain
+-- the mode after a symbol that follows a table's name: `(` begins the table's domain, and any other
+-- symbol leads to `Code`, the mode outside declarations
 abbrev pub after_table_symbol : Sym → Mode
 after_table_symbol LeftParen = TableDomain
 after_table_symbol symbol = Code
 
--- the mode after a symbol in a list where an element is expected or has begun
+-- The mode after a symbol in a list, inside `depth` parentheses and at this stage of an element. An
+-- element or a label is expected at the stages `Fresh` and `Expected`; `After` and `Spaced` are
+-- after a label.
 abbrev pub after_list_symbol : Shape → ℕ → Stage → Sym → Mode
 after_list_symbol shape depth Fresh symbol = after_expected_symbol shape depth symbol
 after_list_symbol shape depth Expected symbol = after_expected_symbol shape depth symbol
 after_list_symbol shape depth After symbol = after_element_symbol shape depth symbol
 after_list_symbol shape depth Spaced symbol = after_element_symbol shape depth symbol
 
--- the mode after any symbol but `;`
+-- The mode after any symbol but `;`. Where an item is expected (`Item`) the mode is unchanged.
+-- After an item's name, domain (`Bare`), text or list (`Rest`), in its domain and in its list the
+-- symbol determines the mode, and so it does in the domain of a table and after the table's name.
+-- In all other modes it is `Code`, the mode outside declarations.
 abbrev pub after_symbol : Mode → Sym → Mode
 after_symbol Code symbol = Code
 after_symbol (Item shape) symbol = Item shape
@@ -143,7 +168,8 @@ after_symbol TableBare symbol = Code
 after_symbol TableTexted symbol = Code
 after_symbol TableLines symbol = Code
 
--- the mode after a line end that is a token: the next item, or the next element of a list
+-- the mode after a line end that is a token: the next item, or the next element of a list;
+-- `current` in any other mode
 abbrev pub after_break : Mode → Mode
 after_break (Named shape) = Item shape
 after_break (Bare shape) = Item shape
@@ -152,7 +178,9 @@ after_break (Element shape depth stage) = list_start shape
 after_break (Tail shape) = list_start shape
 after_break current = current
 
--- the mode after a token; a `;` ends every statement
+-- the mode after a token of this kind with the bytes `text`: a `;` ends every statement, and a line
+-- of a table leaves the mode unchanged; `after_plain` has the rule for any token that is no symbol,
+-- line end, word or line of a table
 abbrev pub after_token : Mode → Kind → List ℕ → Mode
 after_token current (Symbol Semicolon) text = Code
 after_token current (Symbol symbol) text = after_symbol current symbol
@@ -164,19 +192,22 @@ after_token current Number text = after_plain current
 after_token current Text text = after_plain current
 after_token current End text = after_plain current
 
--- the mode after blanks
+-- the mode after blanks: only the stage directly after a label changes, to that after a blank
 abbrev pub after_gap : Mode → Mode
 after_gap (Element shape depth After) = Element shape depth Spaced
 after_gap current = current
 
--- the mode after line ends that are no token: the lines of a table begin
+-- the mode after line ends that are no token: after the name, the domain or the text of a table its
+-- lines begin; any other mode is unchanged
 abbrev pub after_line : Mode → Mode
 after_line TableNamed = TableLines
 after_line TableBare = TableLines
 after_line TableTexted = TableLines
 after_line current = current
 
--- the mode after a descriptive text
+-- The mode after a descriptive text. After an item's name or domain the text is the item's
+-- (`Rest`), in an element of a list the element's (`Tail`), and after a table's name or domain the
+-- table's (`TableTexted`). Any other mode is unchanged.
 abbrev pub after_remark : Mode → Mode
 after_remark (Named shape) = Rest shape
 after_remark (Bare shape) = Rest shape

@@ -24,14 +24,17 @@ use Rattle.gms_lex.specs.Keywords.{begins_statement}
 abbrev pub element_line_ends : ℕ → LineEnds
 element_line_ends depth = if depth == 0 then EndElement else Skipped
 
--- what a line end means in a list, inside `depth` parentheses and at this stage of an element
+-- what a line end means in a list, inside `depth` parentheses and at this stage of an element:
+-- nothing if no element has begun (`Fresh`), otherwise as in `element_line_ends`
 abbrev pub list_line_ends : ℕ → Stage → LineEnds
 list_line_ends depth Fresh = Skipped
 list_line_ends depth Expected = element_line_ends depth
 list_line_ends depth After = element_line_ends depth
 list_line_ends depth Spaced = element_line_ends depth
 
--- what a line end means in a mode
+-- What a line end means in a mode. It ends an item after the item's name, domain (`Bare`), and text
+-- or list (`Rest`). In an element of a list it means what `list_line_ends` gives, and in the
+-- element's text or value (`Tail`) it ends the element. In all other modes it means nothing.
 abbrev pub line_ends : Mode → LineEnds
 line_ends (Named shape) = EndItem
 line_ends (Bare shape) = EndItem
@@ -40,8 +43,10 @@ line_ends (Element shape depth stage) = list_line_ends depth stage
 line_ends (Tail shape) = EndElement
 line_ends current = Skipped
 
--- whether a line end of this meaning ends nothing before the byte: the byte itself ends the item,
--- or the element, or begins the item's list
+-- Whether a line end of this meaning ends nothing before the byte. One that may end an item ends
+-- nothing before `/`, `,` and `;`, which themselves begin the item's list or end the item. One that
+-- may end an element ends nothing before `/` and `,`, which themselves end the element. For one
+-- that means nothing the answer is true.
 abbrev pub passes : LineEnds → ℕ → Bool
 passes EndItem b = b == 47 || (b == 44 || b == 59)
 passes EndElement b = b == 47 || b == 44
@@ -60,13 +65,15 @@ begins_other text = not (begins is_blank text || is_line_end text)
 abbrev pub space_length : List ℕ → ℕ
 space_length text = before begins_other text
 
--- how many bytes the line end takes with which a text begins
+-- how many bytes the line end takes with which a text begins: 2 if it is a carriage return and a
+-- line feed, 1 if it is a line feed
 abbrev pub line_end_length : List ℕ → ℕ
 line_end_length text = if begins (λ b. b == 13) text then 2 else 1
 
--- The piece of a line end with which a text begins. If it may end an item or an element, it does so
--- unless the text ends after all blanks and line ends, or continues with a byte that passes; then
--- all these blanks and line ends are one piece.
+-- The piece of a line end with which a text begins. If it means nothing (`Skipped`), it alone is a
+-- piece `LineEnd`. If it may end an item or an element, it does so as the token `Break`, with two
+-- exceptions: after all blanks and line ends the text ends, or a byte follows before which it ends
+-- nothing (`passes`). Then these blanks and line ends are one piece `LineEnd`.
 abbrev pub line_end : LineEnds → List ℕ → Read
 line_end Skipped text = lexeme LineEnd (line_end_length text)
 line_end EndItem text = if ends_or_begins (passes EndItem) (drop (space_length text) text) then lexeme LineEnd (space_length text) else lexeme (Token Break) (line_end_length text)
@@ -76,11 +83,13 @@ line_end EndElement text = if ends_or_begins (passes EndElement) (drop (space_le
 abbrev pub is_item_mark : ℕ → Bool
 is_item_mark b = b == 47 || (b == 44 || b == 59)
 
--- the piece after an item's name: its domain, its list, its end, or its text
+-- the piece after an item's name: a symbol if the text begins with `(`, `/`, `,` or `;`, otherwise
+-- a descriptive text
 abbrev pub piece_after_name : List ℕ → Read
 piece_after_name text = if begins (λ b. b == 40 || is_item_mark b) text then symbol text else remark text
 
--- the piece after an item's domain
+-- the piece after an item's domain: a symbol if the text begins with `/`, `,` or `;`, otherwise a
+-- descriptive text
 abbrev pub piece_after_domain : List ℕ → Read
 piece_after_domain text = if begins is_item_mark text then symbol text else remark text
 
@@ -94,26 +103,35 @@ abbrev pub begins_value_dot : Shape → ℕ → Stage → List ℕ → Bool
 begins_value_dot Parameter depth Spaced text = depth == 0 && (begins_dot text && begins is_ascii_digit (drop 1 text))
 begins_value_dot shape depth stage text = false
 
--- the piece of the text or value of an element, in a list of this shape
+-- the piece of the text or value of an element, in a list of this shape: in a parameter's list a
+-- token of code, where a quoted token is a label; in any other list a descriptive text
 abbrev pub element_tail : Shape → List ℕ → Read
 element_tail Parameter text = code_token Label text
 element_tail Set text = remark text
 element_tail Scalar text = remark text
 element_tail Model text = remark text
 
--- the piece after an element of a list
+-- The piece after a label of a list, inside `depth` parentheses and at this stage. It is a symbol
+-- if the text begins with a byte that ends or continues an element (`is_element_mark`), and not
+-- with the dot of a number. Otherwise it is the text or value of the element outside parentheses,
+-- and the token where a label is expected (`label_token`) within them.
 abbrev pub piece_after_label : Shape → ℕ → Stage → List ℕ → Read
 piece_after_label shape depth stage text =
     if begins is_element_mark text && not (begins_value_dot shape depth stage text) then symbol text else (if depth == 0 then element_tail shape text else label_token text)
 
--- the piece at the start of a text in a list, inside `depth` parentheses and at this stage
+-- the piece at the start of a text in a list, inside `depth` parentheses and at this stage of an
+-- element: a label or a symbol where an element or a label is expected (`Fresh`, `Expected`), and
+-- by `piece_after_label` after a label (`After`, `Spaced`)
 abbrev pub in_list : Shape → ℕ → Stage → List ℕ → Read
 in_list shape depth Fresh text = label_token text
 in_list shape depth Expected text = label_token text
 in_list shape depth After text = piece_after_label shape depth After text
 in_list shape depth Spaced text = piece_after_label shape depth Spaced text
 
--- the piece at the start of a text that begins with neither a blank nor a line end
+-- The piece at the start of a text that begins with neither a blank nor a line end. After a name,
+-- after a domain (`Bare`, `TableBare`) and in an element of a list it is what the function for that
+-- mode gives. In all other modes it is a token of code, where a quoted token is a label in the text
+-- or value of a list (`Value`, `Tail`), and otherwise a text.
 abbrev pub token_read : Mode → List ℕ → Read
 token_read (Named shape) text = piece_after_name text
 token_read TableNamed text = piece_after_name text
@@ -124,24 +142,29 @@ token_read (Value shape) text = code_token Label text
 token_read (Tail shape) text = code_token Label text
 token_read current text = code_token Text text
 
--- The first piece where the lines of a table may continue; the text begins with `blanks` blanks,
--- and the first `bytes` bytes of its line are of the table, which a statement keyword or a `;`
--- ends.
+-- The first piece of `text` among the lines of a table. The text begins with `blanks` blanks, and
+-- the first `bytes` bytes of its line are those before the `;` that ends the table, or all. The
+-- piece is the blanks, if there are any and that `;`, the end of the line or a statement keyword
+-- follows them. Else it is a token of code, if `bytes` is 0 or the text begins with a statement
+-- keyword; else a line of the table. A quoted token of code is a text here.
 abbrev pub table_piece_of : ℕ → ℕ → List ℕ → Read
 table_piece_of blanks bytes text =
     if nat_lt 0 blanks && (nat_le bytes blanks || begins_statement (drop blanks text)) then lexeme Gap blanks else (if bytes == 0 || begins_statement text then code_token Text text else table_line bytes text)
 
--- the first piece where the lines of a table may continue
+-- the first piece of a text among the lines of a table: a line end if the text begins with one,
+-- otherwise by `table_piece_of`, from how many blanks it begins with and how many bytes of its
+-- first line come before the `;` that ends the table (all, if there is none)
 abbrev pub table_piece : List ℕ → Read
 table_piece text =
     if is_line_end text then lexeme LineEnd (line_end_length text) else table_piece_of (prefix_len is_blank text) (table_bytes (content text)) text
 
--- the first piece of a text in any other mode
+-- the first piece of a text in the mode `current`, which is not `TableLines`
 abbrev pub plain_piece : Mode → List ℕ → Read
 plain_piece current text =
     if begins is_blank text then lexeme Gap (prefix_len is_blank text) else (if is_line_end text then line_end (line_ends current) text else token_read current text)
 
--- the first piece of a text in this mode, or the error instead of one
+-- the first piece of a text in this mode, or the error instead of a piece; `TableLines` is the mode
+-- among the lines of a table
 abbrev pub piece_at : Mode → List ℕ → Read
 piece_at TableLines text = table_piece text
 piece_at current text = plain_piece current text

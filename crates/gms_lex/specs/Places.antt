@@ -7,8 +7,9 @@ use Rattle.gms_grammar.specs.Columns.{column_after}
 abbrev pub source_start : Place
 source_start = record { line = 1; column = 1 }
 
--- the place of the byte that follows the byte b at the place `at`: on the next line after a line
--- feed, otherwise in a later column
+-- the place of the byte that follows the byte b at the place `at`: column 1 of the next line after
+-- a line feed, otherwise the column that `column_after` gives: the next one, or after a tab the
+-- next tab stop
 abbrev pub place_after : Place → ℕ → Place
 place_after at b =
     if b == 10 then record { line = at.line + 1; column = 1 } else record { line = at.line; column = column_after at.column b }

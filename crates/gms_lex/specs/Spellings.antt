@@ -43,7 +43,7 @@ IsSymbol symbol text = str_eq_ignore_ascii_case text (written_symbol symbol) ≡
 abbrev pub AreSomeDigits : List ℕ → Type 0
 AreSomeDigits text = (begins is_ascii_digit text ≡ true) × (list_all is_ascii_digit text ≡ true)
 
--- the text is a dot with any digits after it, or empty
+-- the text is a dot with zero or more digits after it, or empty
 abbrev pub IsPoint : List ℕ → Type 0
 IsPoint [] = Unit {0}
 IsPoint (b ∷ digits) = (b ≡ 46) × (list_all is_ascii_digit digits ≡ true)
@@ -59,8 +59,8 @@ IsExponentSpelling [] = Unit {0}
 IsExponentSpelling (b ∷ power) = ((b == 101 || b == 69) ≡ true) × IsPower power
 
 -- The text is a number that `following` follows: digits, a dot that digits may follow, and an
--- exponent, of which each may be absent; there is a digit before the exponent. A dot without digits
--- is not followed by another dot.
+-- exponent, of which each may be absent; there is a digit before the exponent. A dot that no digit
+-- follows is not followed by another dot.
 pub record IsNumberSpelling (text following : List ℕ) : Type 0 where
   pub whole : List ℕ
   pub point : List ℕ

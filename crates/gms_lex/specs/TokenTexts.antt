@@ -21,7 +21,8 @@ unquoted (b ∷ text) = if is_quote b then take (length text - 1) text else b �
 
 -- A token of this kind may have these bytes. Words, labels, quoted texts and lines of tables are
 -- ASCII. Words and labels have at most 63 bytes, quotation marks not counted; a quoted text begins
--- with its mark; a line of a table is no longer than a line may be.
+-- with its mark; a line of a table has at most as many bytes as a line of a source may have. Tokens
+-- of the other kinds may have any bytes.
 abbrev pub IsSpelled : Kind → List ℕ → Type 0
 IsSpelled Word text = IsAscii text × (length text ≤ longest_label)
 IsSpelled Label text = IsAscii text × (length (unquoted text) ≤ longest_label)

@@ -25,8 +25,9 @@ use Rattle.gms_lex.specs.Places.{place_of_byte}
 abbrev pub most_source_bytes : ℕ
 most_source_bytes = 1048576
 
--- The text, read from `mode` on, begins with these pieces, each the longest that its mode allows;
--- the pieces before a piece determine its mode. After them the mode is `last`, and `rest` remains.
+-- The text, read from `mode` on, begins with these pieces, each the one that `piece_at` reads in
+-- its mode; the pieces before a piece determine its mode. After them the mode is `last`, and `rest`
+-- remains.
 abbrev pub IsMadeOf : Mode → List ℕ → List Lexeme → Mode → List ℕ → Type 0
 IsMadeOf mode text [] last rest = (last ≡ mode) × (rest ≡ text)
 IsMadeOf mode text (p ∷ pieces) last rest =
@@ -54,8 +55,9 @@ tokens_of source start (p ∷ pieces) = token_at (place_of_byte source start) p.
 abbrev pub end_token : List ℕ → Token
 end_token source = record { kind = End; start = length source; end = length source; at = place_of_byte source (length source) }
 
--- The tokens of the source, whose text without comments and control lines is `text`: the text is
--- made of pieces, and these are the tokens among them, and the source's end.
+-- The tokens of the source. `text` is meant to be `code_text source`, where comments and control
+-- lines are blank, so that each byte keeps its position. The text, read from the mode `Code` on, is
+-- made of pieces; the tokens are those among the pieces, and last the token of the source's end.
 pub record HasTokens (source text : List ℕ) (tokens : List Token) : Type 0 where
   pub pieces : List Lexeme
   pub last : Mode
@@ -75,8 +77,9 @@ pub record StopsAt (text : List ℕ) (fault : ByteFault) : Type 0 where
   pub at : fault.at ≡ bytes_of_pieces pieces + misread.ahead
   pub error : fault.error ≡ misread.error
 
--- The source has a lexical error at this byte: an error of a line, or one where a piece is
--- expected.
+-- The source has this lexical error at this byte: an error of a line (`IsLineFault`), such as a
+-- line that is too long, or one where a piece is expected in `code_text source`, the source with
+-- blanks in place of comments and control lines.
 abbrev pub IsByteFault : List ℕ → ByteFault → Type 0
 IsByteFault source fault = IsLineFault source fault ⊎ StopsAt (code_text source) fault
 
@@ -85,7 +88,8 @@ pub record IsTokens (source : List ℕ) (tokens : List Token) : Type 0 where
   pub sound : (fault : ByteFault) → IsByteFault source fault → ⊥
   pub has : HasTokens source (code_text source) tokens
 
--- This is the first lexical error of the source, by place and then by number.
+-- This is the first lexical error of the source: the one at the least byte, and of those at one
+-- byte the one with the least error number. Its place `at` is the line and column of that byte.
 pub record IsLexFault (source : List ℕ) (fault : LexFault) : Type 0 where
   pub byte : ℕ
   pub at : fault.at ≡ place_of_byte source byte

@@ -17,7 +17,7 @@ pub enum Shape {
     Model,
 }
 
-/// What kind of text follows a word that begins a statement.
+/// What follows a keyword that begins a statement: items of a declaration, a table, or code.
 #[derive(Clone, Copy)]
 pub enum Keyword {
     /// Items of this shape follow.

@@ -16,7 +16,7 @@ use std::alloc::{AllocError, Global};
 /// The greatest number of bytes that a source may have: 1 MiB.
 pub const MOST_BYTES: usize = 1_048_576;
 
-/// The tokens that a source begins with, as far as they go.
+/// The tokens of a source up to its end, or up to the error at which they stop.
 #[derive(Drop)]
 struct Reading {
     /// The tokens, in order; with the end of the source where it was reached.

@@ -36,7 +36,7 @@ optional_in absent meaning _ = absent
 abbrev pub between : {T : Type 0} → DerivationTree T → DerivationTree T
 between tree = first_in (second_in tree)
 
--- all lists appended
+-- the lists appended, in order
 abbrev pub concatenated : {A : Type 0} → List (List A) → List A
 concatenated [] = []
 concatenated (xs ∷ others) = xs ++ concatenated others
@@ -53,7 +53,7 @@ opposed PlusInf = MinusInf
 opposed MinusInf = PlusInf
 opposed Na = Na
 
--- a value with its sign changed, if the derivation tree of an optional sign has a `-`
+-- the value, with its sign changed if the derivation tree of an optional sign has a `-`
 abbrev pub signed_value : DerivationTree (Terminal × Token) → Ext Rational → Ext Rational
 signed_value (some sign) value = if is_minus (token_of sign).kind then opposed value else value
 signed_value _ value = value
@@ -64,7 +64,8 @@ module _ (source : List ℕ) (labels : List (List ℕ)) where
   abbrev pub label_text : DerivationTree (Terminal × Token) → List ℕ
   label_text tree = unquoted (token_text source (token_of tree))
 
-  -- the number of a label; 0 for a label that the table lacks
+  -- the number of a label: its index, from 0, in the table of labels; also 0 for a label that the
+  -- table lacks
   abbrev pub number_of_label : List ℕ → ℕ
   number_of_label text = or_0 (place_of labels text)
 
@@ -106,8 +107,8 @@ module _ (source : List ℕ) (labels : List (List ℕ)) where
   parsed_value (value_number tree) = signed_value (first_in tree) (value_of_token (second_in tree))
   parsed_value _ = Na
 
-  -- the item of data that the derivation of an element means, with the given value, or without a
-  -- value (None)
+  -- the item of data that the derivation of an element means: its place, the labels at each
+  -- position, the given value, or no value (None), and whether a range in it is invalid
   abbrev pub item_of : DerivationTree (Terminal × Token) → Option (Ext Rational) → Item Rational
   item_of element value =
       record {
@@ -129,6 +130,6 @@ module _ (source : List ℕ) (labels : List (List ℕ)) where
   abbrev pub parameter_items : DerivationTree (Terminal × Token) → List (Item Rational)
   parameter_items list = listed_in parameter_item (inside list)
 
-  -- the item of a scalar: its value, without positions
+  -- the items of a scalar: one, which has its value and no positions
   abbrev pub scalar_in : DerivationTree (Terminal × Token) → List (Item Rational)
   scalar_in tree = record { at = place_in tree; parts = []; value = Some (parsed_value (inside tree)); bad_range = false } ∷ []

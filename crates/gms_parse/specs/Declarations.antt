@@ -19,9 +19,9 @@ use Rattle.gms_ast.specs.StatementTrees.{Act, declares, declares_models}
 use Rattle.gms_parse.specs.DataLists.{listed_in, optional_in, between, elements_in, parameter_items, scalar_in}
 use Rattle.gms_parse.specs.Tables.{items_given}
 
--- What the items of a declaration mean, in order, where `meaning` gives what one item means. The
--- grammar nests them: after an item there may be a comma and further items, or a line end and
--- perhaps further items.
+-- What the items of a declaration statement mean, in order. An item declares one name, and
+-- `meaning` gives what it means. The grammar nests the items: after an item there may be a comma
+-- and further items, or a line end and perhaps further items.
 abbrev mutual
   pub items_in : {A T : Type 0} → (DerivationTree T → A) → DerivationTree T → List A
   items_in meaning (node (pair item others)) = meaning item ∷ further_items meaning others
@@ -67,17 +67,18 @@ module _ (source : List ℕ) (names labels : List (List ℕ)) where
         items = [];
       }
 
-  -- whether the list of a model is `all`
+  -- whether the list of a model is the word `all`
   abbrev pub has_all : DerivationTree (Terminal × Token) → Bool
   has_all (model_all all) = true
   has_all _ = false
 
-  -- the equations that the list of a model names
+  -- the equations that the list of a model names; none for `all`
   abbrev pub equations_in : DerivationTree (Terminal × Token) → List Named
   equations_in (model_named list) = listed_in named_in list
   equations_in _ = []
 
-  -- the declaration of one model: its name, and its equations between slashes
+  -- the declaration of one model: its name, whether the list between slashes is `all`, and the
+  -- equations that it names; without a list `false` and no equations
   abbrev pub model_in : DerivationTree (Terminal × Token) → ModelDecl
   model_in item =
       record {
@@ -86,7 +87,8 @@ module _ (source : List ℕ) (names labels : List (List ℕ)) where
         equations = optional_in [] (λ list. equations_in (inside (between list))) (second_in (inside item));
       }
 
-  -- the statement that declares variables, perhaps with a type before the keyword
+  -- the statement that declares variables, of the kind that the word before the keyword names; free
+  -- without such a word
   abbrev pub variable_act : DerivationTree (Terminal × Token) → Act Number
   variable_act statement =
       declares (optional_in kind.Free (λ word. variable_kind (token_text source (token_of word))) (first_in (inside statement))) (items_in plain_in (second_in (second_in (inside statement))))
@@ -111,15 +113,15 @@ module _ (source : List ℕ) (names labels : List (List ℕ)) where
         items = optional_in [] (λ list. meaning (between list)) (second_in (second_in (inside item)));
       }
 
-  -- the declaration of one set
+  -- the declaration of one set: its name, its domain, and its elements between slashes, if any
   abbrev pub set_in : DerivationTree (Terminal × Token) → Decl Number
   set_in item = data_in (elements_in source labels) item
 
-  -- the declaration of one parameter
+  -- the declaration of one parameter: its name, its domain, and its items between slashes, if any
   abbrev pub parameter_in : DerivationTree (Terminal × Token) → Decl Number
   parameter_in item = data_in (parameter_items source labels) item
 
-  -- the declaration of one scalar: its name, and its value between slashes
+  -- the declaration of one scalar: its name, and its value between slashes, if any
   abbrev pub scalar_item_in : DerivationTree (Terminal × Token) → Decl Number
   scalar_item_in item =
       record {

@@ -22,21 +22,21 @@ use Rattle.gms_parse.specs.declared.fault.SourceFault.{SourceFault}
 use Rattle.gms_parse.specs.declared.fault.SourceFaultOrMemory.{SourceFaultOrMemory}
 use Rattle.gms_parse.specs.declared.fault.SourceFaultOrMemory.TheVariants.{Memory, Fault}
 
--- the number of a source error
+-- the number of a source error in a listing
 abbrev pub source_error_code : SourceError → ℕ
 source_error_code TooLong = 9
 source_error_code (Lexical error) = lexical_code error
 source_error_code (Syntax error) = syntax_code error
 source_error_code (Table error) = table_code error
 
--- the name of a source error
+-- the name of a source error in a listing
 abbrev pub source_error_name : SourceError → List ℕ
 source_error_name TooLong = codes "TooLong"
 source_error_name (Lexical error) = lexical_name error
 source_error_name (Syntax error) = syntax_name error
 source_error_name (Table error) = table_name error
 
--- a fault of a part of an expression, as a source fault
+-- a syntax fault, as a source fault
 abbrev pub source_fault : SyntaxFault → SourceFault
 source_fault fault = record { error = Syntax fault.error; at = fault.at }
 
@@ -44,8 +44,8 @@ source_fault fault = record { error = Syntax fault.error; at = fault.at }
 abbrev pub lexical_fault : LexFault → SourceFault
 lexical_fault fault = record { error = Lexical fault.error; at = fault.at }
 
--- an error of a table as a source error; a label beyond the limit is TooManyLabels, as it is
--- outside of tables
+-- an error of a table as a source error; `Labels`, a new label for which the table of labels is
+-- full, is the syntax error TooManyLabels, just as outside of tables
 abbrev pub error_of_table : TableError → SourceError
 error_of_table table.Labels = Syntax TooManyLabels
 error_of_table error = Table error

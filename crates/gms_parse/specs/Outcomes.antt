@@ -52,14 +52,16 @@ abbrev pub RequiresMore : List KindedToken → List KindedToken → Type 0
 RequiresMore prefix rest = kind_of rest ≡ terminal.End → Derives productions (the Program) prefix → ⊥
 
 module _ (limit : ℕ) (source : List ℕ) where
-  -- each table among the tokens has items, and they are those that the lines of the table give
+  -- each table among the tokens has items, and they are those that the lines of the table give,
+  -- where `labels` are all labels of the source, and `limit` is the limit of the size of numbers
   abbrev pub HaveItems : List (List ℕ) → List KindedToken → Type 0
   HaveItems labels tokens = (lines : List KindedToken) → IsTableOf tokens lines → AreTableItems limit source labels lines (items_given source labels lines)
 
   -- The tokens are the program with these names, labels and statements. They derive a program up to
-  -- the end, and none has a fault. The names and labels are those after the tokens, each table has
-  -- items, and the statements are those that the derivation means: there a number is the one that
-  -- its text means, and a table has the items that its lines give.
+  -- the end, and none has a fault; `limit` is the limit of the size of numbers. The names and
+  -- labels are those of the reader's state after the tokens. Each table has items. The statements
+  -- are those that the derivation means: there a number is the one that its text means, and a table
+  -- has the items that its lines give.
   pub record IsProgramOf (tokens : List KindedToken) (names labels : List (List ℕ)) (statements : Statements Number) : Type 0 where
     pub tree : DerivationTree KindedToken
     pub end : Token
@@ -88,7 +90,8 @@ module _ (limit : ℕ) (source : List ℕ) where
     pub is_first : IsLexicalFault source lexical
     pub is : fault ≡ lexical_fault lexical
 
-  -- The source is short enough and has tokens, and the fault is the first of these.
+  -- The source is short enough and has tokens. They are no program, or a faulty one, and the fault
+  -- is their first one.
   pub record IsSyntactic (fault : SourceFault) : Type 0 where
     pub short : length source ≤ most_source_bytes
     pub tokens : List Token

@@ -20,12 +20,13 @@ module _ (source : List ℕ) (names labels : List (List ℕ)) where
     loop_act (node (pair _ (pair _ (pair tree _)))) = controlled_act tree
     loop_act _ = displays []
 
-    -- the loop with this control and the statements of this body
+    -- the loop with this control and the statements of this body; a tree of another form gives an
+    -- empty display
     pub controlled_act : DerivationTree (Terminal × Token) → Act Number
     controlled_act (pair sets (pair _ body)) = loops (control source names labels sets) (loop_body body)
     controlled_act _ = displays []
 
-    -- the statements of a loop's body
+    -- the statements of a loop's body, in order; none for a tree of another form
     pub loop_body : DerivationTree (Terminal × Token) → Statements Number
     loop_body (node (pair first others)) = statement (place_in first) (inner_act first) (after_semicolon others)
     loop_body _ = no_statement
@@ -34,13 +35,15 @@ module _ (source : List ℕ) (names labels : List (List ℕ)) where
     after_semicolon (some (pair _ (some tree))) = loop_body tree
     after_semicolon _ = no_statement
 
-    -- the act of a statement in a loop: an assignment, or another
+    -- the act of a statement in a loop: an assignment, or another; a tree of another form gives an
+    -- empty display
     pub inner_act : DerivationTree (Terminal × Token) → Act Number
     inner_act (node (inner_assignment tree)) = assignment_act source names labels tree
     inner_act (node (inner_other tree)) = display_or_other tree
     inner_act _ = displays []
 
-    -- the act of a display, an option statement, a solve, an abort, or a loop
+    -- the act of a display, an option statement, a solve, an abort, or a loop; a tree of another
+    -- form gives an empty display
     pub display_or_other : DerivationTree (Terminal × Token) → Act Number
     display_or_other (other_display tree) = display_act source names labels tree
     display_or_other (other_option tree) = option_act source names labels tree
@@ -49,7 +52,8 @@ module _ (source : List ℕ) (names labels : List (List ℕ)) where
     display_or_other (other_loop tree) = loop_act tree
     display_or_other _ = displays []
 
-  -- the act of a statement that begins with a keyword
+  -- the act of a statement that begins with a keyword; a tree of another form gives an empty
+  -- display
   abbrev pub keyword_act : DerivationTree (Terminal × Token) → Act Number
   keyword_act (node (keyword_set tree)) = set_act source names labels tree
   keyword_act (node (keyword_parameter tree)) = parameter_act source names labels tree
@@ -73,7 +77,7 @@ module _ (source : List ℕ) (names labels : List (List ℕ)) where
   named_first _ others = others
 
   -- the statements between two semicolons: perhaps one that begins with a name, then those that
-  -- begin with keywords
+  -- begin with keywords; none for a tree of another form
   abbrev pub segment : DerivationTree (Terminal × Token) → Statements Number
   segment (node (pair named others)) = named_first named (keyword_statements others)
   segment _ = no_statement
@@ -83,7 +87,8 @@ module _ (source : List ℕ) (names labels : List (List ℕ)) where
   segments (more (pair _ tree) others) = followed_by (segment tree) (segments others)
   segments _ = no_statement
 
-  -- the statements that the derivation of a program means
+  -- the statements that the derivation of a program means, in order; none for a tree of another
+  -- form
   abbrev pub statements_of : DerivationTree (Terminal × Token) → Statements Number
   statements_of (node (pair first others)) = followed_by (segment first) (segments others)
   statements_of _ = no_statement

@@ -47,7 +47,8 @@ pub record ReaderState : Type 0 where
   pub keyword : Terminal
   pub level : ℕ
 
--- the state before the first token
+-- the state before the first token: nothing is open, no name or label has been read, and the last
+-- keyword counts as `;`, after which a statement may begin
 abbrev pub start : ReaderState
 start = record { open_count = 0; names = []; labels = []; before = []; keyword = terminal.Semicolon; level = 0 }
 
@@ -60,8 +61,8 @@ last_kind (token ∷ tokens) = token.0
 abbrev pub is_keyword : Terminal → Bool
 is_keyword kind = is_terminal_among (map (λ words. words.0) statement_words) kind
 
--- Whether a token of this kind, in this state, is a name: a `Name` or a `Suffix`, but not after a
--- dot or `using`, and not in an option statement.
+-- Whether a token of this kind, in this state, is a name: a `Name`, or a `Suffix` (a word such as
+-- `lo`), but not after a dot or `using`, and not in an option statement.
 abbrev pub is_name : ReaderState → Terminal → Bool
 is_name read_state kind =
     is_terminal_among (terminal.Name ∷ terminal.Suffix ∷ []) kind && not (is_terminal_among (terminal.Dot ∷ terminal.Using ∷ []) (last_kind read_state.before) || is terminal.Option read_state.keyword)
@@ -72,15 +73,15 @@ abbrev pub is_index : ReaderState → Terminal → Bool
 is_index read_state kind =
     is terminal.Text kind && not (is_terminal_among (terminal.Display ∷ terminal.Abort ∷ []) read_state.keyword && read_state.open_count == read_state.level)
 
--- the first label of a range, if a label and a `*` were read last; the list has the last token
--- first
+-- the first label of a range, if a label and a `*` were read last, otherwise None; the list has the
+-- last token first
 abbrev pub range_start : List KindedToken → Option Token
 range_start [] = None
 range_start (star ∷ []) = None
 range_start (star ∷ (first ∷ others)) = if is terminal.Star star.0 && is terminal.Label first.0 then Some first.1 else None
 
--- the place of the name of the table that was begun last: the token after the keyword `table`; the
--- list has the last token first
+-- the place of the name of the table that was begun last: the token after the keyword `table`; line
+-- 0 and column 0 without a table. The list has the last token first
 abbrev pub table_name : List KindedToken → Place
 table_name [] = record { line = 0; column = 0 }
 table_name (name ∷ []) = record { line = 0; column = 0 }
@@ -91,8 +92,8 @@ table_name (name ∷ (word ∷ others)) = if is terminal.Table word.0 then name.
 abbrev pub ends_statement : Terminal → Bool
 ends_statement kind = is_terminal_among (terminal.Semicolon ∷ terminal.End ∷ []) kind || is_keyword kind
 
--- If these texts are entered in the table `labels`, in order, the table is full when one of them,
--- which is new, is to be entered.
+-- If these texts are entered in the table `labels`, in order, the table is full (it has 65,536
+-- texts) when one of them, which is new, is to be entered.
 pub record ExceedsTable (labels texts : List (List ℕ)) : Type 0 where
   pub before : List (List ℕ)
   pub text : List ℕ
@@ -106,20 +107,24 @@ module _ (source : List ℕ) where
   abbrev pub range_texts : List ℕ → List ℕ → List (List ℕ)
   range_texts from to = if is_range from to then members from to else []
 
-  -- the labels that the token of a label in a list enters, where the option is the first label of
-  -- its range: after the `*` of a range the members of the range, before a `*` none, else the label
-  -- itself
+  -- The labels that the token of a label in a list enters in the table of labels, which may have
+  -- them already. If the token is the last label of a range, the option is the first, and these are
+  -- the members of the range (none if it is invalid). Otherwise the option is None, and `ahead` is
+  -- the kind of the next token: before a `*`, which makes the token the first label of a range,
+  -- there are none, else there is the label itself.
   abbrev pub list_labels : Option Token → Terminal → Token → List (List ℕ)
   list_labels (Some first) ahead token = range_texts (unquoted (token_text source first)) (unquoted (token_text source token))
   list_labels None ahead token = if is terminal.Star ahead then [] else unquoted (token_text source token) ∷ []
 
-  -- the lines of a table up to the given one, which is read after the tokens `before`, the last of
-  -- them first
+  -- the lines of a table up to the line `line`, in order. The list `before` has the tokens that
+  -- were read before it, the last one first
   abbrev pub lines_with : List KindedToken → KindedToken → List KindedToken
   lines_with before line = reverse (line ∷ take_while (λ token. is terminal.TableLine token.0) before)
 
-  -- the labels that a token enters, read in this state, if one of kind `ahead` follows it: an
-  -- index, a label or a range of a list, or with the last line of a table all labels of the table
+  -- the labels that a token, read in this state, adds to the table of labels, unless the table has
+  -- them, if one of kind `ahead` follows it: that of a quoted text that is an index; in a list that
+  -- of a label, or those of a range at its end; with the last line of a table all labels of the
+  -- table; otherwise none
   abbrev pub new_labels : ReaderState → KindedToken → Terminal → List (List ℕ)
   new_labels read_state token ahead =
       if is_index read_state token.0 then unquoted (token_text source token.1) ∷ [] else (if is terminal.Label token.0 then list_labels (range_start read_state.before) ahead token.1 else (if is terminal.TableLine token.0 && not (is terminal.TableLine ahead) then labels_of_lines source (lines_with read_state.before token) else []))
@@ -141,12 +146,14 @@ module _ (source : List ℕ) where
   abbrev pub reader_after_all : ReaderState → List KindedToken → Terminal → ReaderState
   reader_after_all read_state tokens ahead = left_by reader_after read_state tokens ahead
 
-  -- the fault of the first of the tokens `rest` as unexpected
+  -- the fault that the first of the tokens `rest` is unexpected, or, without tokens, that the end
+  -- of the source is
   abbrev pub unexpected : List KindedToken → SourceFault
   unexpected rest = source_fault (syntax.unexpected_token source rest)
 
 module _ (limit : ℕ) (source : List ℕ) where
-  -- the number of a token is out of range: it does not fit under the limit as a literal
+  -- the number of a token is out of range: it is neither an integer of at most `limit`, nor an
+  -- integer over a power of ten with both of these at most `limit`
   abbrev pub IsOutOfRange : Token → Type 0
   IsOutOfRange token = (x : Number) → MeansNumber (token_text source token) x → FitsLiteral limit x → ⊥
 
@@ -166,8 +173,9 @@ module _ (limit : ℕ) (source : List ℕ) where
     without_lines : token.0 ≡ terminal.RightParen → read_state.keyword ≡ terminal.Table → ends_statement ahead ≡ true →
         IsFaulty read_state token ahead (record { error = Table NoHeading; at = table_name read_state.before })
 
--- the rule by which a source is read, for a pair of the limit of numbers and the source: the state
--- after a token, the faults of a token, and the fault of an unexpected one
+-- the rule by which a source is read, for a pair of the limit of the size of numbers and the
+-- source: the state after a token, the faults of a token, the fault of an unexpected one, and the
+-- result that reports a fault
 abbrev pub source_rule : ℕ × List ℕ → Rule Token ReaderState SourceFault SourceFaultOrMemory
 source_rule key = record {
   after = reader_after key.1;
@@ -176,6 +184,7 @@ source_rule key = record {
   told = Fault;
 }
 
--- none of the tokens has a fault, read from this state on, if one of kind `ahead` follows them
+-- none of the tokens has a fault, read from this state on, if one of kind `ahead` follows them;
+-- `limit` is the limit of the size of numbers
 abbrev pub AreTokensFaultless : ℕ → List ℕ → ReaderState → List KindedToken → Terminal → Type 0
 AreTokensFaultless limit source read_state tokens ahead = rules.AreFaultless (source_rule (limit, source)) read_state tokens ahead

@@ -34,7 +34,7 @@ side_of (token_kind.Symbol sym.EqG) = side.G
 side_of (token_kind.Symbol sym.EqN) = side.N
 side_of _ = side.E
 
--- whether the word of a direction is `maximizing`
+-- whether the word of a direction is `maximizing`, letter case ignored
 abbrev pub is_maximizing : List ℕ → Bool
 is_maximizing word = is_word word (codes "maximizing")
 
@@ -78,13 +78,14 @@ module _ (source : List ℕ) (names labels : List (List ℕ)) where
   abbrev pub assigned : Target Number → Option (trees.Tree Number) → DerivationTree (Terminal × Token) → Act Number
   assigned target condition right_side = assigns target condition (place_in right_side) (expression source names labels right_side)
 
-  -- the assignment to the target, by what follows the target: a condition, `=` and the right side
+  -- the assignment to the target, by what follows the target: a condition, `=` and the right side;
+  -- a tree of another form gives an empty display
   abbrev pub after_target : Target Number → DerivationTree (Terminal × Token) → Act Number
   after_target target (node (pair condition tree)) = assigned target (condition_in condition) (second_in tree)
   after_target target _ = displays []
 
   -- the statement of a target without suffix and lags, by what follows it: with `=` an assignment
-  -- to it, with `..` the definition of an equation
+  -- to it, with `..` the definition of an equation; a tree of another form gives an empty display
   abbrev pub after_head : Target Number → DerivationTree (Terminal × Token) → Act Number
   after_head target (node (pair condition (head_assigned tree))) = assigned target (condition_in condition) (second_in tree)
   after_head target (node (pair condition (head_defined (pair _ sides)))) =
@@ -92,8 +93,9 @@ module _ (source : List ℕ) (names labels : List (List ℕ)) where
   after_head target _ = displays []
 
   abbrev mutual
-    -- the indices of the head of a statement; the grammar nests them up to the first lag, and from
-    -- there on they are a plain list
+    -- the indices of the head of a statement, which is a name with indices in parentheses; the
+    -- grammar nests them up to the first lag, and from there on they are a plain list. A tree of
+    -- another form has none
     pub head_indices : DerivationTree (Terminal × Token) → trees.Indices Number
     head_indices (node (head_label (pair text tree))) = trees.label (label_in source names labels text) (following_indices tree)
     head_indices (node (head_set (pair name (node (head_lag (pair amount (node (pair others _)))))))) =
@@ -107,7 +109,8 @@ module _ (source : List ℕ) (names labels : List (List ℕ)) where
 
   abbrev mutual
     -- the statement with this target, by its indices and what follows them: an assignment if one of
-    -- the indices has a lag, else an assignment or a definition
+    -- the indices has a lag, else an assignment or a definition; a tree of another form gives an
+    -- empty display
     pub act_of_head : Target Number → DerivationTree (Terminal × Token) → Act Number
     act_of_head target (node (head_label (pair _ tree))) = act_after target tree
     act_of_head target (node (head_set (pair _ (node (head_lag (pair _ (node (pair _ (pair _ tree))))))))) = after_target target tree
@@ -124,7 +127,7 @@ module _ (source : List ℕ) (names labels : List (List ℕ)) where
   target_at name suffix indices = record { at = (token_of name).at; name = name_in source names labels name; suffix = suffix; indices = indices }
 
   -- the assignment or definition that begins with a name, which a suffix, indices, or neither
-  -- follow
+  -- follow; a tree of another form gives an empty display
   abbrev pub named_act : DerivationTree (Terminal × Token) → Act Number
   named_act (node (pair name (node (name_suffixed (pair dotted (pair indices tree)))))) =
       after_target (target_at name (suffix_in source names labels (some dotted)) (optional_indices source names labels indices)) tree
@@ -132,64 +135,70 @@ module _ (source : List ℕ) (names labels : List (List ℕ)) where
   named_act (node (pair name (node (name_alone tree)))) = after_head (target_at name suffix.None trees.no_index) tree
   named_act _ = displays []
 
-  -- the target of an assignment in a loop
+  -- the target of an assignment in a loop: its name, with the suffix and the indices that it has;
+  -- for a tree of another form, the name of the tree `none` with no suffix and no index
   abbrev pub target_in : DerivationTree (Terminal × Token) → Target Number
   target_in (node (pair name (pair dotted indices))) =
       target_at name (suffix_in source names labels dotted) (optional_indices source names labels indices)
   target_in _ = target_at none suffix.None trees.no_index
 
-  -- the assignment that is a statement of a loop
+  -- the assignment that is a statement of a loop; a tree of another form gives an empty display
   abbrev pub assignment_act : DerivationTree (Terminal × Token) → Act Number
   assignment_act (node (pair target tree)) = after_target (target_in target) tree
   assignment_act _ = displays []
 
   -- ---- other statements
 
-  -- the alias statement: two names of a set
+  -- the alias statement: two names of a set; a tree of another form gives an empty display
   abbrev pub alias_act : DerivationTree (Terminal × Token) → Act Number
   alias_act (node (pair _ (pair _ (pair both _)))) =
       aliases (named_in source names labels (first_in both)) (named_in source names labels (second_in (second_in both)))
   alias_act _ = displays []
 
-  -- one thing that a display or an abort shows: a text, or a symbol perhaps with a suffix
+  -- one thing that a display or an abort shows: a text, or a symbol perhaps with a suffix; for a
+  -- tree of another form, the text of the tree `none`
   abbrev pub parsed_shown : DerivationTree (Terminal × Token) → Show
   parsed_shown (node (shown_text text)) = show.Text (text_word text)
   parsed_shown (node (shown_symbol (pair name dotted))) = show.Symbol (named_in source names labels name) (suffix_in source names labels dotted)
   parsed_shown _ = show.Text (text_word none)
 
-  -- the list of what a display or an abort shows, in order
+  -- the list of what a display or an abort shows, in order; empty for a tree of another form
   abbrev pub shown_list : DerivationTree (Terminal × Token) → List Show
   shown_list (node list) = listed_in parsed_shown list
   shown_list _ = []
 
-  -- the display statement
+  -- the display statement, by what it shows; a tree of another form gives an empty display
   abbrev pub display_act : DerivationTree (Terminal × Token) → Act Number
   display_act (node (pair _ list)) = displays (shown_list list)
   display_act _ = displays []
 
-  -- the abort statement: its condition, if any, and what it shows
+  -- the abort statement: its condition, if any, and what it shows; a tree of another form gives an
+  -- empty display
   abbrev pub abort_act : DerivationTree (Terminal × Token) → Act Number
   abort_act (node (pair _ (pair condition list))) = aborts (condition_in condition) (optional_in [] shown_list list)
   abort_act _ = displays []
 
-  -- what an option is set to: a number, or a word
+  -- what an option is set to: a number, with its place, or a word; for a tree of another form, the
+  -- word of the tree `none`
   abbrev pub setting_value : DerivationTree (Terminal × Token) → Setting Number
   setting_value (setting_number number) = setting.Number (token_of number).at (number_meant (bytes_in number))
   setting_value (setting_word word) = setting.Name (word_in word)
   setting_value _ = setting.Name (word_in none)
 
-  -- the word of an option, and the number or word to which it is set
+  -- the word of an option, and the number or word to which it is set; for a tree of another form,
+  -- both are the word of the tree `none`
   abbrev pub parsed_setting : DerivationTree (Terminal × Token) → Word × Setting Number
   parsed_setting (node (pair word (pair _ tree))) = (word_in word, setting_value tree)
   parsed_setting _ = (word_in none, setting_value none)
 
-  -- the option statement
+  -- the option statement: each option with the value to which it is set; a tree of another form
+  -- gives an empty display
   abbrev pub option_act : DerivationTree (Terminal × Token) → Act Number
   option_act (node (pair _ list)) = sets_options (listed_in parsed_setting list)
   option_act _ = displays []
 
   -- the solve statement; `using` and its word come before the direction and the objective, or after
-  -- them
+  -- them; a tree of another form gives an empty display
   abbrev pub solve_act : DerivationTree (Terminal × Token) → Act Number
   solve_act (node (pair _ (pair model (solve_using (pair _ (pair method objective)))))) =
       solves (named_in source names labels model) (word_in method) (named_in source names labels (second_in objective)) (is_maximizing (bytes_in (first_in objective)))

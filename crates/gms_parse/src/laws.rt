@@ -7,8 +7,8 @@ ghost use Rattle.gms_parse.specs.Outcomes.{ProgramView, HasProgram, IsSourceFaul
 /// Programs").
 ///
 /// A program is compared by its view: its names, its labels, and the trees of its statements,
-/// tables included. So two programs of one source, with the same limit of numbers, differ only in
-/// where their parts are stored, and in the type of their numbers.
+/// tables included. So two programs of one source, with the same limit of the size of numbers,
+/// differ only in where their parts are stored, and in the type of their numbers.
 pub fn source_laws()
     ensures one_program { (limit : ℕ) (source : List ℕ) (one other : ProgramView) →
         HasProgram limit source one → HasProgram limit source other → one ≡ other }

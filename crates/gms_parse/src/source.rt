@@ -21,10 +21,12 @@ const START: Place = Place { line: 1, column: 1 };
 /// cannot occur here, though everything before it could begin a program (`Expected`, or
 /// `NotInProfile` for a word of a statement or a value that the language leaves out); the end of
 /// the source if more is required (`Expected`); a parenthesis that is opened while 100 are open
-/// (`Depth`); a number out of range (`Number`); the 65,537th name or label (`TooManyLabels`; of a
-/// range, at its upper label); a fault of a table at its word (`NoColumn`, `TwoColumns`,
-/// `RepeatedEntry`, `BadRow`); a table without headings, found where it ends and reported at its
-/// name (`NoHeading`). `Memory` means out of memory.
+/// (`Depth`); a number out of range (`Number`), that is, a whole number over `F.limit`, or a
+/// fraction m/10^e, where m does not end in 0, with m or 10^e over it; the 65,537th name, or the
+/// 65,537th label (`TooManyLabels`; of a range, at its upper label); a fault in a table, at the
+/// word that has it (`NoColumn`, `TwoColumns`, `RepeatedEntry`, `BadRow`); a table without
+/// headings, found where it ends and reported at its name (`NoHeading`). `Memory` means out of
+/// memory.
 pub fn parse<F: ExactField>(alloc: Global, source: &[u8]) -> Result<Program<F>, SourceFaultOrMemory>
     ensures { MatchResult result (λ program. IsProgram F.limit source.now F.value program) (λ e. IsSourceRefusal F.limit source.now e) }
 {

@@ -19,8 +19,8 @@ signed_number text x = if begins (λ b. b == 45) text then neg_ℚ x else x
 abbrev pub IsNumberText : List ℕ → Type 0
 IsNumberText text = (x : Number) × MeansNumber (unsigned text) x
 
--- The text is a number, with or without a sign: its value is y, and its magnitude fits under the
--- limit as a literal.
+-- The text is a number, with or without a sign: its value is y, and its magnitude may be written as
+-- a literal (`FitsLiteral`) under `limit`, the limit of the size of numbers.
 pub record IsValue (limit : ℕ) (text : List ℕ) (y : Number) : Type 0 where
   pub magnitude : Number
   pub means : MeansNumber (unsigned text) magnitude

@@ -32,8 +32,8 @@ pub data TablePart : Type 0 where
 abbrev pub is_plus : Word → Bool
 is_plus word = begins (λ b. b == 43) word.text && length word.text == 1
 
--- the words of the lines after the headings `headings`: new headings follow a `+`, and any other
--- line is a row
+-- the words of the lines after the headings `headings`: a line whose first word is `+` has new
+-- headings after this word, a line without words is skipped, and any other line is a row
 abbrev pub under : List Word → List (List Word) → List TablePart
 under headings [] = []
 under headings ([] ∷ lines) = under headings lines
@@ -69,7 +69,7 @@ label_texts (cell row headings word ∷ parts) = label_texts parts
 abbrev pub meet : Word → Word → Bool
 meet number heading = nat_lt number.at.column heading.end && nat_lt heading.at.column number.end
 
--- those of the headings that a number meets
+-- those of the headings that share a column with a number
 abbrev pub met : List Word → Word → List Word
 met headings number = filter (meet number) headings
 
@@ -82,7 +82,8 @@ Key = List (List ℕ) × List (List ℕ)
 abbrev pub key_of : Word → Word → Key
 key_of row heading = (map lower_case (labels_of_word row), map lower_case (labels_of_word heading))
 
--- the keys of the numbers, in order: of each number one key for each heading that it meets
+-- the keys of the numbers, in order: for each heading that shares a column with a number, the
+-- labels of the number's row and of the heading
 abbrev pub keys_of : List TablePart → List Key
 keys_of [] = []
 keys_of (name word ∷ parts) = keys_of parts
@@ -92,8 +93,8 @@ keys_of (cell row headings word ∷ parts) = map (key_of row) (met headings word
 
 module _ {F : Type 0} (limit : ℕ) (value : F → Number) (labels : List (List ℕ)) where
   -- The entry is that of the number `word` in the row `row` under these headings: it has the word's
-  -- place, the value that the word means, and the labels of the row and of the one heading that the
-  -- word meets, by their numbers in the table `labels`.
+  -- place, the value that the word means, a number within `limit`, and the labels of the row and of
+  -- the one heading that shares a column with the word, by their numbers in the table `labels`.
   pub record IsEntry (row : Word) (headings : List Word) (word : Word) (entry : Entry F) : Type 0 where
     pub heading : Word
     pub under_one : met headings word ≡ heading ∷ []
@@ -114,9 +115,10 @@ module _ {F : Type 0} (limit : ℕ) (value : F → Number) (labels : List (List 
 module _ (limit : ℕ) (labels : List (List ℕ)) where
   -- The word has this error, after the words `before`. BadRow and Labels: a heading or a row label
   -- is not made of labels, or has a label beyond the limit of the table of labels. Where a number
-  -- is expected, NoColumn, TwoColumns and RepeatedEntry: a number meets no heading, meets more than
-  -- one, or is the second number of its row and heading; and BadRow: the word is no number within
-  -- the limit.
+  -- is expected, NoColumn, TwoColumns and RepeatedEntry: a number of any size shares a column with
+  -- no heading, with more than one, or with just one and has the row and the heading of an earlier
+  -- number; and BadRow: the word is no number within the limit of the size of numbers. No word has
+  -- the error NoHeading.
   abbrev pub IsPartFault : List TablePart → TablePart → TableError → Type 0
   IsPartFault before (name word) BadRow = labels_of_text word.text ≡ None
   IsPartFault before (name word) Labels = most_labels < length (all_entered labels (label_texts before ++ labels_of_word word))
@@ -156,19 +158,23 @@ abbrev pub nowhere : Place
 nowhere = record { line = 0; column = 0 }
 
 -- These are the entries of a table that has headings and no fault; `before` and `after` are the
--- labels of the program before the table and after it.
+-- labels of the program before the table and after it, and `limit` is the limit on the size of
+-- numbers.
 pub record IsTable {F : Type 0} (limit : ℕ) (value : F → Number) (lines : List TableLine) (before after : List (List ℕ)) (entries : List (Entry F)) : Type 0 where
   pub headed : ¬ (table_parts lines ≡ [])
   pub sound : ArePartsFaultless limit before [] (table_parts lines)
   pub labels_are : after ≡ all_entered before (label_texts (table_parts lines))
   pub entries_are : AreEntries limit value after (table_parts lines) entries
 
--- the table has this fault: no line has a heading, or it is the first fault in the lines
+-- the table of these lines has this fault: NoHeading, at line 0, column 0, if the lines have no
+-- words; or the first fault of its words. `labels` are the labels of the program before the table,
+-- and `limit` is the limit on the size of numbers
 abbrev pub IsTableFault : ℕ → List TableLine → List (List ℕ) → TableFault → Type 0
 IsTableFault limit lines labels fault =
     ((table_parts lines ≡ []) × (fault ≡ record { error = NoHeading; at = nowhere })) ⊎ IsFirstPartFault limit labels (table_parts lines) fault
 
--- the result in place of entries is right: the fault of the table, or out of memory
+-- the result in place of entries is right: the fault of the table (`IsTableFault`), or out of
+-- memory
 abbrev pub IsTableRefusal : ℕ → List TableLine → List (List ℕ) → TableFaultOrMemory → Type 0
 IsTableRefusal limit lines labels (Fault fault) = IsTableFault limit lines labels fault
 IsTableRefusal limit lines labels Memory = Unit {0}

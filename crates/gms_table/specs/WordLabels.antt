@@ -11,15 +11,15 @@ use Rattle.gms_grammar.specs.SplitFields.{is_dot}
 use Rattle.gms_table.specs.Words.{Word, parted}
 
 -- the label in quotation marks of which `mark` is the opening mark and `rest` is the text after it:
--- the text before the closing mark, with which `rest` ends; None if `rest` has another form, is too
--- long or is not ASCII
+-- the text before the closing mark, with which `rest` ends; None if `rest` has another form, or the
+-- label is longer than `longest_label` or not ASCII
 abbrev pub quoted_label : ℕ → List ℕ → Option (List ℕ)
 quoted_label mark rest =
     let inner = prefix_len (λ b. not (b == mark)) rest in
     if inner + 1 == length rest && (nat_le inner longest_label && list_all is_ascii (take inner rest)) then Some (take inner rest) else None
 
 -- the label that a text without quotation marks is: a letter or a digit, and then letters, digits,
--- `+`, `-` and `_`; None if it has another form or is too long
+-- `+`, `-` and `_`; None if it has another form or is longer than `longest_label`
 abbrev pub plain_label : List ℕ → Option (List ℕ)
 plain_label text =
     if begins is_ascii_alphanumeric text && (prefix_len is_label_byte text == length text && nat_le (length text) longest_label) then Some text else None
@@ -48,7 +48,8 @@ labels_of_text text = labels_among (parted is_dot text)
 abbrev pub labels_of_word : Word → List (List ℕ)
 labels_of_word word = unwrap_or (labels_of_text word.text) []
 
--- the table of labels `labels` after these texts were entered in it, in order
+-- the table of labels `labels` after these texts were entered in it, in order: each is appended,
+-- unless the table has it, letter case ignored
 abbrev pub all_entered : List (List ℕ) → List (List ℕ) → List (List ℕ)
 all_entered labels texts = fold entered labels texts
 

@@ -12,14 +12,14 @@ pub record Word : Type 0 where
   pub end : ℕ
   pub text : List ℕ
 
--- the fields after the first field of a text. The second argument is the text from the byte that
--- ends the first field: what follows that byte has the fields that `fields` gives; an empty text
--- has none
+-- the fields after the first field of a text, given the text from the byte that ends the first
+-- field: those that `fields` gives of what follows this byte; none if the text is empty
 abbrev pub others_by : (List ℕ → List (List ℕ)) → List ℕ → List (List ℕ)
 others_by fields [] = []
 others_by fields (b ∷ rest) = fields rest
 
--- the first fields of a text, which is split at bytes that pass the test; at most `most` fields
+-- the first fields of a text, at most `most` of them; the text is split at bytes that pass the test
+-- outside labels in quotation marks
 abbrev pub first_fields : (ℕ → Bool) → ℕ → List ℕ → List (List ℕ)
 first_fields test zero text = []
 first_fields test (suc most) text = take (field_bytes test text) text ∷ others_by (first_fields test most) (drop (field_bytes test text) text)
@@ -29,7 +29,8 @@ first_fields test (suc most) text = take (field_bytes test text) text ∷ others
 abbrev pub parted : (ℕ → Bool) → List ℕ → List (List ℕ)
 parted test text = first_fields test (suc (length text)) text
 
--- the column, from 1, of the byte n of a line, counted from 0, or the column of the line's end
+-- the column, from 1, of the byte n of a line, counted from 0; past the last byte, the column of
+-- the line's end. A tab leads to the next column that is one more than a multiple of 8
 abbrev pub column_of_byte : List ℕ → ℕ → ℕ
 column_of_byte line n = fold column_after 1 (take n line)
 

@@ -27,6 +27,6 @@ pub struct Entry<F> {
     /// The labels of the heading, by their numbers in the table of labels, in the order in which
     /// they are written.
     pub column: Sequence<u32>,
-    /// The number in the row, under the heading.
+    /// The number of the table in this row, under this heading.
     pub value: F,
 }
