@@ -1,6 +1,6 @@
 -- States that are extended by declarations and data: what is declared keeps its domain, and the
 -- members of a set are in order and have a label for each of its positions.
-use Rattle.std.proofs.Common.{◌≡◌, ◌⊎◌, ℕ, zero, suc, Bool, true, false, ◌==◌, ◌&&◌, List, [], ◌∷◌, ◌++◌, length, set, filter, slice_get, refl, sym, ap, ◌∙◌, subst, cond, Option, Some, None, unwrap_or, Result, Ok, Err, inl, inr}
+use Rattle.std.proofs.Common.{◌≡◌, ◌⊎◌, ℕ, zero, suc, Bool, true, false, ◌==◌, List, [], ◌∷◌, ◌++◌, length, set, filter, slice_get, refl, sym, ap, ◌∙◌, subst, cond, Option, Some, None, unwrap_or, Result, Ok, Err, inl, inr}
 use Rattle.std.specs.List.{All, fold}
 use Rattle.std.proofs.lemmas.Bool.{eqb-true, and_parts}
 use Rattle.std.proofs.lemmas.List.Elements.{All-nil, All-cons, All-append, All-filter}

@@ -1,7 +1,6 @@
 -- What declarations add to what is known: names, and equations among them.
-use Rattle.std.proofs.Common.{◌≡◌, ◌<◌, ◌≤◌, ◌⊎◌, ◌+◌, ℕ, zero, suc, Bool, true, false, not, ◌==◌, ◌&&◌, ◌||◌, List, [], ◌∷◌, ◌++◌, length, get_or, map, set, refl, sym, ap, ◌∙◌, subst, append_assoc, Option, Some, None, Result, Ok, Err, unwrap_or, if◌then◌else◌, arith, inl, inr, eq-eqb}
+use Rattle.std.proofs.Common.{◌≡◌, ◌<◌, ◌≤◌, ◌⊎◌, ℕ, suc, Bool, true, false, ◌==◌, ◌&&◌, List, [], ◌∷◌, ◌++◌, length, map, set, refl, sym, ap, ◌∙◌, subst, append_assoc, Option, None, Result, Ok, Err, if◌then◌else◌, arith, inl, inr}
 use Rattle.std.specs.Prelude.{filter, nat_lt}
-use Rattle.std.specs.List.{fold}
 use Rattle.std.proofs.lemmas.Bool.{ltb-true, eqb-true, and_parts}
 use Rattle.std.proofs.lemmas.Bool.Decides.{nat_tests}
 use Rattle.std.proofs.lemmas.List.{append-nil, map-append, set_past, get_or_past, get_or-set_same, get_or-set_other}
@@ -18,11 +17,11 @@ use Rattle.gms_set.specs.Expansion.{ExpandedData, expanded}
 use Rattle.gms_scope.specs.Below.{base_above, superset, superset_in}
 use Rattle.gms_scope.specs.Entries.{DeclarationList, among, entry, names_of_entries}
 use Rattle.gms_scope.specs.Facts.{Facts, above_new, equation_in, with_alias, with_declared, with_model_name}
-use Rattle.gms_scope.specs.Names.{has_one_position, is_equation, is_index_set, is_set_name, has_no_declaration, declared_kind, positions}
+use Rattle.gms_scope.specs.Names.{is_equation, is_index_set, is_set_name, has_no_declaration, declared_kind, positions}
 use Rattle.gms_check.specs.Above.{directly_above}
 use Rattle.gms_check.specs.InnerChanges.{after_item, after_items, with_given, with_model_names}
-use Rattle.gms_check.proofs.Outlines.{base-drawn, base_above-drawn, drawn, drawn-declare_again, drawn-declare_new, drawn-given, drawn-put, drawn-same, kind-drawn, outline, read-at, set-drawn, shape, unknown-drawn}
-use Rattle.gms_check.proofs.KnownNames.{IsKnown, is_in, is_plain, known-again, known-new, new-above}
+use Rattle.gms_check.proofs.Outlines.{base-drawn, base_above-drawn, drawn, drawn-declare_again, drawn-declare_new, drawn-given, drawn-put, kind-drawn, outline, read-at, set-drawn, shape, unknown-drawn}
+use Rattle.gms_check.proofs.KnownNames.{IsKnown, is_plain, known-again, known-new, new-above}
 
 -- whether a name is in a table of `count` names
 abbrev pub in_table : ℕ → ℕ → Bool

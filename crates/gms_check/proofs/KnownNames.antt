@@ -1,16 +1,14 @@
 -- The names that are declared in sequence, and the set that each is directly below.
 use mathlib.Core.Bool.{and-false, or-false, or-true}
-use Rattle.std.proofs.Common.{◌≡◌, ◌<◌, ◌≤◌, ◌⊎◌, ◌+◌, ℕ, zero, suc, Bool, true, false, not, ◌==◌, ◌&&◌, ◌||◌, List, [], ◌∷◌, ◌++◌, length, get_or, map, set, refl, sym, ap, ◌∙◌, subst, Option, Some, None, unwrap_or, if◌then◌else◌, arith, inl, inr, eq-eqb}
-use Rattle.std.specs.Prelude.{nat_lt, slice_get}
+use Rattle.std.proofs.Common.{◌≡◌, ◌<◌, ◌⊎◌, ℕ, Bool, true, false, not, ◌==◌, ◌&&◌, ◌||◌, List, [], ◌∷◌, ◌++◌, length, set, refl, sym, ap, ◌∙◌, subst, Option, Some, None, if◌then◌else◌, arith, inl, inr, eq-eqb}
 use Rattle.std.specs.List.{list_any}
-use Rattle.std.proofs.lemmas.Bool.{ltb-true, eqb-true, and_parts}
-use Rattle.std.proofs.lemmas.Bool.Decides.{nat_tests}
-use Rattle.std.proofs.lemmas.List.{append-nil, map-append, length-set, set_past, get_or_past, get_or-set_same, get_or-set_other}
+use Rattle.std.proofs.lemmas.Bool.{eqb-true, and_parts}
+use Rattle.std.proofs.lemmas.List.{map-append, length-set, get_or-set_same, get_or-set_other}
 use Rattle.std.proofs.lemmas.List.Folds.{list_any-append}
-use Rattle.gms_store.specs.State.{Content, undeclared, alias_of, set_of, parameter_of, variable_of, equation_of, model_with, Symbol, State, no_symbol, symbol_at, alias_target, base_of, symbol_of}
+use Rattle.gms_store.specs.State.{Content, undeclared, alias_of, set_of, parameter_of, variable_of, equation_of, model_with, Symbol, State, no_symbol, symbol_at, alias_target, base_of}
 use Rattle.gms_store.specs.Declarations.{is_set, is_undeclared, put_at}
-use Rattle.gms_scope.specs.Below.{base_above, bounds, first_base, is_met_before, superset, superset_in}
-use Rattle.gms_scope.specs.Entries.{DeclarationList, above_of, among, entry, is_entered, names_of_entries}
+use Rattle.gms_scope.specs.Below.{base_above, first_base, is_met_before, superset, superset_in}
+use Rattle.gms_scope.specs.Entries.{DeclarationList, above_of, among, is_entered, names_of_entries}
 use Rattle.gms_scope.specs.Names.{has_one_position, is_index_set, is_set_name, has_no_declaration, positions}
 use Rattle.gms_check.specs.Above.{directly_above}
 use Rattle.gms_check.proofs.Outlines.{read-at}

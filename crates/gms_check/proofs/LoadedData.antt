@@ -1,15 +1,14 @@
 -- The data of a program without errors can be given.
 use Rattle.gms_check.proofs.Faultless.{none-first, none-left, none-right}
 use Rattle.std.proofs.lemmas.Bool.{and_from, not-false}
-use Rattle.std.proofs.Common.{◌≡◌, ◌≤◌, ◌<◌, ◌+◌, ℕ, Bool, true, false, not, ◌==◌, ◌&&◌, ◌||◌, List, [], ◌∷◌, ◌++◌, length, map, take, drop, get_or, refl, sym, ap, ◌∙◌, subst, append_assoc, Option, Some, None, Result, Ok, Err, arith, if◌then◌else◌}
-use Rattle.std.specs.Prelude.{All, flat_map, is_none, nat_le, nat_lt, take_while}
-use Rattle.std.specs.List.{fold, list_all, AllByRecursion}
+use Rattle.std.proofs.Common.{◌≡◌, ◌≤◌, ◌<◌, ◌+◌, ℕ, Bool, true, not, ◌&&◌, List, [], ◌∷◌, ◌++◌, length, map, take, drop, get_or, refl, sym, ap, ◌∙◌, subst, Option, Some, None, Result, Ok, Err, arith, if◌then◌else◌}
+use Rattle.std.specs.Prelude.{flat_map, nat_le, take_while}
+use Rattle.std.specs.List.{list_all, AllByRecursion}
 use Rattle.std.proofs.lemmas.Bool.Decides.{nat_tests}
 use Rattle.std.proofs.lemmas.List.{map-append, take_more, take-append-drop, drop_more}
 use Rattle.std.proofs.lemmas.List.Elements.{All-from_recursion}
 use Rattle.std.proofs.lemmas.List.Sums.{fold-append, take_while-cons}
 use Rattle.gq_number.specs.Number.{Number}
-use Rattle.gms_labels.specs.declared.place.Place.{Place}
 use Rattle.gms_ast.specs.declared.word.Named.{Named}
 use Rattle.gms_ast.specs.declared.declaration.DeclKind.{DeclKind}
 use Rattle.gms_ast.specs.declared.declaration.DeclKind.TheVariants as declaring
@@ -30,12 +29,11 @@ use Rattle.gms_check.specs.declared.error.ErrorKind.TheVariants.{DataFault, Doma
 use Rattle.gms_check.specs.declared.error.CompileError.{CompileError}
 use Rattle.gms_check.specs.CompileErrors.{act_errors, declaration_errors, errors_after, errors_of, is_faultless, known_after, known_after_item, known_in, statement_error}
 use Rattle.gms_check.specs.DeclarationUses.{are_usable, data_uses, domain_use, expansion_uses, failure, has_all_parts, is_usable_in, item_uses, kind_uses}
-use Rattle.gms_check.specs.Domains.{is_wrong_count}
 use Rattle.gms_check.specs.Errors.{first_error}
 use Rattle.gms_check.specs.InnerLoadable.{AreLoadable, IsLoadable, IsLoadableItem}
-use Rattle.gms_check.specs.Loaded.{IsAccepted, loaded, sound}
-use Rattle.gms_check.specs.Past.{Known, Past, after_act, after_statement, state_after, with_item, with_name}
-use Rattle.gms_check.specs.Uses.{Use, Uses, bounding, failing, naming, placing}
+use Rattle.gms_check.specs.Loaded.{IsAccepted, sound}
+use Rattle.gms_check.specs.Past.{Known, after_act, after_statement, state_after, with_item, with_name}
+use Rattle.gms_check.specs.Uses.{Uses, failing, placing}
 use Rattle.gms_check.proofs.NoErrors.{AreClean, IsClean, are-clean, clean-left, clean-right}
 use Rattle.gms_check.proofs.Soundness.{after-sound, at-most, right-count}
 

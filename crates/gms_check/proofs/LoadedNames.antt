@@ -24,7 +24,7 @@ use Rattle.gms_tuple.specs.TupleOrder.{tuple_cmp}
 use Rattle.gms_tuple.specs.TupleSet.{has}
 use Rattle.gms_store.specs.declared.kind.VariableType.{VariableType}
 use Rattle.gms_store.specs.declared.kind.VariableType.TheVariants as type
-use Rattle.gms_store.specs.State.{Attributes, Content, set_of, parameter_of, variable_of, equation_of, Symbol, State, no_symbol, symbol_at, symbol_of, alias_target, base_of, value_in, members_in, attributes_in, value_of, members_of, attributes_of, absent_variable, unbounded}
+use Rattle.gms_store.specs.State.{Content, set_of, parameter_of, variable_of, equation_of, Symbol, State, no_symbol, symbol_at, symbol_of, alias_target, base_of, value_in, members_in, attributes_in, value_of, members_of, attributes_of, absent_variable, unbounded}
 use Rattle.gms_store.specs.State as state_words
 use Rattle.gms_store.specs.Declarations.{alias_symbol, blank_state, can_join, content_of, declare, declare_alias, declare_model, declare_models, declared_again, is_free, is_undeclared, model_symbol, names_of, positions_of, put_at, symbol_of_kind}
 use Rattle.gms_set.specs.Expansion.{ExpandedData, expanded}

@@ -1,13 +1,12 @@
 -- Parts without errors.
 use Rattle.gms_check.proofs.Faultless.{none-left, none-right}
-use Rattle.std.proofs.Common.{◌≡◌, ℕ, Bool, true, false, not, List, [], ◌∷◌, ◌++◌, map, refl, sym, ap, ◌∙◌, Option, Some, None, if◌then◌else◌}
+use Rattle.std.proofs.Common.{◌≡◌, Bool, true, false, List, [], ◌∷◌, ◌++◌, map, refl, if◌then◌else◌}
 use Rattle.std.specs.Prelude.{filter}
 use Rattle.gms_labels.specs.declared.place.Place.{Place}
 use Rattle.gms_check.specs.declared.error.ErrorKind.{ErrorKind}
 use Rattle.gms_check.specs.declared.error.ErrorKind.TheVariants.{UnknownName, Redeclared, WrongKind, WrongArity, DomainOfSet, DomainOfLabel, Uncontrolled, ControlledTwice, NotOrdered, DynamicDomain, Nonlinear, Discrete, ModelType, NotDefined, DefinedTwice, Objective, UnknownSolver, OptionRange, Endogenous, Function, DataFault, Restart}
 use Rattle.gms_check.specs.declared.error.CompileError.{CompileError}
 use Rattle.gms_check.specs.CompileErrors.{checked_kinds, errors_at, errors_of, has_error}
-use Rattle.gms_check.specs.Errors.{first_error}
 use Rattle.gms_check.specs.Past.{Known}
 use Rattle.gms_check.specs.Uses.{Use, Uses}
 

@@ -1,7 +1,6 @@
 -- States with nothing given: what each name is declared as, and its positions.
-use Rattle.std.proofs.Common.{◌≡◌, ℕ, zero, suc, Bool, true, false, ◌==◌, ◌&&◌, List, [], ◌∷◌, ◌++◌, length, get_or, map, set, refl, sym, ap, ◌∙◌, Option, Some, None, unwrap_or, if◌then◌else◌}
+use Rattle.std.proofs.Common.{◌≡◌, ℕ, zero, suc, Bool, true, false, ◌==◌, ◌&&◌, List, [], ◌∷◌, length, get_or, map, set, refl, ap, ◌∙◌, Option, Some, None, unwrap_or, if◌then◌else◌}
 use Rattle.std.specs.Prelude.{slice_get}
-use Rattle.std.specs.List.{fold}
 use Rattle.std.specs.FinMap as finite
 use Rattle.std.proofs.Math.Seq.{map-set_same}
 use Rattle.std.proofs.lemmas.List.{map-set}
@@ -10,10 +9,9 @@ use Rattle.gq_extended.specs.Extended as extended
 use Rattle.gq_extended.specs.Meaning.{extended as meaning}
 use Rattle.gq_extended.specs.declared.extended.Ext.{Ext}
 use Rattle.gms_ast.specs.declared.declaration.DeclKind.{DeclKind}
-use Rattle.gms_store.specs.declared.kind.SymbolKind.{SymbolKind}
 use Rattle.gms_store.specs.declared.kind.VariableType.TheVariants.{Free, Positive, Negative, Discrete}
-use Rattle.gms_store.specs.State.{Content, undeclared, alias_of, set_of, parameter_of, variable_of, equation_of, model_with, Symbol, State, no_symbol, symbol_at, alias_target, base_of, symbol_of, with_symbol, with_content, with_membership, with_value, if_fits, after_membership, after_value}
-use Rattle.gms_store.specs.Declarations.{can_join, content_of, declare, declare_alias, declare_model, declared_again, first_settings, is_set, is_undeclared, join_name, kind_in, put_at, retyped, symbol_of_kind}
+use Rattle.gms_store.specs.State.{Content, undeclared, alias_of, set_of, parameter_of, variable_of, equation_of, model_with, Symbol, State, no_symbol, symbol_at, alias_target, base_of, symbol_of, with_content, with_membership, with_value, if_fits, after_membership, after_value}
+use Rattle.gms_store.specs.Declarations.{content_of, declare, first_settings, is_set, is_undeclared, kind_in, put_at, retyped, symbol_of_kind}
 use Rattle.gms_scope.specs.Below.{base_above, bounds, first_base, is_met_before}
 use Rattle.gms_scope.specs.Data.{given_to, with_datum}
 use Rattle.gms_scope.specs.Names.{has_one_position, is_index_set, is_set_name, has_no_declaration, declared_kind, positions}

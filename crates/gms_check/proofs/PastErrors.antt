@@ -1,6 +1,6 @@
 -- The errors of a program, by what is known before each statement.
 use Rattle.gms_check.proofs.Faultless.{none-first, none-left, none-right}
-use Rattle.std.proofs.Common.{◌≡◌, ◌<◌, ◌≤◌, ℕ, Bool, true, false, not, ◌==◌, ◌&&◌, ◌||◌, List, [], ◌∷◌, ◌++◌, length, map, set, get_or, drop, ◌+◌, append_assoc, refl, sym, ap, ◌∙◌, subst, Option, Some, None, if◌then◌else◌, eq-eqb}
+use Rattle.std.proofs.Common.{◌≡◌, ◌<◌, ◌≤◌, ℕ, Bool, true, false, ◌==◌, ◌&&◌, List, [], ◌∷◌, ◌++◌, length, map, set, get_or, drop, ◌+◌, append_assoc, refl, sym, ap, ◌∙◌, Option, Some, None, if◌then◌else◌, eq-eqb}
 use Rattle.std.specs.Prelude.{filter, is_none}
 use mathlib.Core.Path.{fun_ext}
 use Rattle.std.proofs.lemmas.Bool.{eqb-true, not-false}
@@ -28,11 +28,11 @@ use Rattle.gms_check.specs.CompileErrors.{act_errors, each_error, statement_erro
 use Rattle.gms_check.specs.DeclarationUses.{model_uses}
 use Rattle.gms_check.specs.Errors.{first_error}
 use Rattle.gms_check.specs.Past.{Known, Past, is_among, is_defined, is_unordered, models_after, state_after}
-use Rattle.gms_check.specs.Uses.{Uses, listing}
+use Rattle.gms_check.specs.Uses.{listing}
 use Rattle.gms_check.proofs.NoErrors.{AreClean, are-clean}
 use Rattle.gms_check.proofs.Outlines.{base-drawn, bounds-drawn, drawn, index-drawn, kind-drawn, positions-drawn, read-at}
-use Rattle.gms_check.proofs.KnownFacts.{in_table, is_equation_in}
-use Rattle.gms_check.proofs.PastFacts.{Occurs, listed_in, occurs-first}
+use Rattle.gms_check.proofs.KnownFacts.{in_table}
+use Rattle.gms_check.proofs.PastFacts.{Occurs, occurs-first}
 use Rattle.gms_check.proofs.PastSteps.{AreEquations, AreOfEquations, IsListed, occurs-after}
 
 -- ---- models without errors are of equations

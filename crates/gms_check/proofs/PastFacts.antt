@@ -1,10 +1,8 @@
 -- What is known before a statement, as a function of the statements before it.
 use mathlib.Core.Bool.{and-false, or-false, or-true}
-use Rattle.std.proofs.Common.{◌≡◌, ◌<◌, ◌≤◌, ◌⊎◌, ◌+◌, ℕ, zero, suc, Bool, true, false, not, ◌==◌, ◌&&◌, ◌||◌, List, [], ◌∷◌, ◌++◌, length, get_or, map, set, replicate, refl, sym, ap, ◌∙◌, subst, append_assoc, Option, Some, None, Result, Ok, Err, unwrap_or, if◌then◌else◌, arith, inl, inr, eq-eqb}
-use Rattle.std.specs.Prelude.{filter, flat_map, is_none, nat_lt, slice_set}
-use Rattle.std.specs.List.{fold, list_any}
-use mathlib.Core.Path.{fun_ext}
-use Rattle.std.proofs.lemmas.Bool.{ltb-true, lt-ltb, eqb-true}
+use Rattle.std.proofs.Common.{◌≡◌, ◌≤◌, ℕ, Bool, true, false, not, ◌==◌, ◌&&◌, ◌||◌, List, [], ◌∷◌, ◌++◌, length, get_or, map, set, replicate, refl, sym, ap, ◌∙◌, subst, append_assoc, Option, None, if◌then◌else◌, arith, eq-eqb}
+use Rattle.std.specs.Prelude.{filter, flat_map, nat_lt, slice_set}
+use Rattle.std.proofs.lemmas.Bool.{ltb-true, eqb-true}
 use Rattle.std.proofs.lemmas.Bool.Decides.{nat_tests}
 use Rattle.std.proofs.lemmas.List.{append-nil, map-append, length-map, length-replicate, length-set, set_past, get_or_past, get_or-replicate, get_or-set_same, get_or-set_other}
 use Rattle.std.proofs.lemmas.List.Elements.{filter-append}
@@ -12,32 +10,21 @@ use Rattle.std.proofs.lemmas.List.Folds.{list_any-append}
 use Rattle.std.proofs.lemmas.List.Sums.{fold-append}
 use Rattle.std.proofs.lemmas.Grind.{flat_map-append}
 use Rattle.gq_number.specs.Number.{Number}
-use Rattle.gms_ast.specs.declared.word.Named.{Named}
 use Rattle.gms_ast.specs.declared.declaration.DeclKind.{DeclKind}
 use Rattle.gms_ast.specs.declared.declaration.DeclKind.TheVariants as declaring
-use Rattle.gms_ast.specs.declared.declaration.Decl.{Decl}
-use Rattle.gms_ast.specs.declared.declaration.ModelDecl.{ModelDecl}
-use Rattle.gms_ast.specs.declared.program.Act.{Act}
-use Rattle.gms_ast.specs.declared.program.Act.TheVariants.{Declare, Alias, Assign, Define, Model, Solve, Display, Loop, Options, Abort}
 use Rattle.gms_ast.specs.declared.program.Stmt.{Stmt}
 use Rattle.gms_ast.specs.declared.program.Program.{Program}
-use Rattle.gms_store.specs.State.{alias_of, Symbol, State, no_symbol, symbol_at, base_of}
-use Rattle.gms_store.specs.Declarations.{blank_state, declare_model, declare_models, declared_by, first_settings, is_set, is_undeclared, names_of, positions_of}
-use Rattle.gms_set.specs.declared.fault.SetFault.{SetFault}
-use Rattle.gms_set.specs.Expansion.{ExpandedData, expanded}
+use Rattle.gms_store.specs.State.{Symbol, State, no_symbol, symbol_at, base_of}
+use Rattle.gms_store.specs.Declarations.{blank_state, is_set, is_undeclared}
 use Rattle.gms_scope.specs.Below.{superset_in}
-use Rattle.gms_scope.specs.Data.{is_ascending, labels_of_items}
 use Rattle.gms_scope.specs.DynamicSets.{dynamic_sets}
-use Rattle.gms_scope.specs.Entries.{above_of, names_of_entries}
-use Rattle.gms_scope.specs.Facts.{Facts, first_facts, marked, model_entry, names, with_declared, with_marks, with_model, with_unordered}
-use Rattle.gms_scope.specs.Names.{has_one_position, is_equation, is_index_set, has_no_declaration, declared_kind, positions}
-use Rattle.gms_check.specs.Above.{directly_above}
-use Rattle.gms_check.specs.InnerChanges.{after_declaration, after_item, after_items, facts_after, with_given, with_model_names, with_models, with_order}
+use Rattle.gms_scope.specs.Facts.{Facts, first_facts, marked, names, with_marks}
+use Rattle.gms_scope.specs.Names.{has_one_position, positions}
 use Rattle.gms_check.specs.CompileErrors.{names_before, of_program}
-use Rattle.gms_check.specs.Past.{Past, after_act, after_statement, declared_names, defines, equations_declared, equations_listed, gives_unordered, is_among, is_defined, is_unordered, models_after, models_declared_by, names_declared, numbers_of_names, state_after, with_data, with_item, with_name}
+use Rattle.gms_check.specs.Past.{Past, after_statement, declared_names, defines, equations_declared, gives_unordered, is_among, is_defined, is_unordered, models_after, models_declared_by, names_declared, state_after}
 use Rattle.gms_check.proofs.Outlines.{at-drawn, drawn, outline, read-at}
 use Rattle.gms_check.proofs.KnownNames.{IsKnown}
-use Rattle.gms_check.proofs.KnownFacts.{AreSettled, FactsGo, Goes, Grows, IsSettled, Keeps, alias-goes, equation_names, goes-none, in_table, is_equation_in, item_names, items-go, items-keeps, kept-equations, model_names-keeps, models-go, settled-append, settled-grows}
+use Rattle.gms_check.proofs.KnownFacts.{AreSettled, FactsGo, Grows, in_table, is_equation_in, kept-equations, settled-append, settled-grows}
 
 -- ---- marks
 

@@ -1,11 +1,9 @@
 -- One statement more: what is known after it, and the errors of a program.
 use mathlib.Core.Bool.{and-false, and-true, or-false}
-use Rattle.std.proofs.Common.{◌≡◌, ◌<◌, ◌≤◌, ◌⊎◌, ◌+◌, ℕ, zero, suc, Bool, true, false, not, ◌==◌, ◌&&◌, ◌||◌, List, [], ◌∷◌, ◌++◌, length, get_or, map, set, refl, sym, ap, ◌∙◌, subst, append_assoc, Option, Some, None, Result, Ok, Err, unwrap_or, if◌then◌else◌, arith, inl, inr, eq-eqb}
-use Rattle.std.specs.Prelude.{filter, flat_map, is_none, nat_lt, option_to_list, slice_set}
+use Rattle.std.proofs.Common.{◌≡◌, ℕ, Bool, true, false, not, ◌==◌, ◌&&◌, ◌||◌, List, [], ◌∷◌, ◌++◌, length, map, refl, sym, ap, ◌∙◌, subst, append_assoc, Result, Ok, Err, if◌then◌else◌, inl}
+use Rattle.std.specs.Prelude.{filter, flat_map, nat_lt, slice_set}
 use Rattle.std.specs.List.{fold, list_any}
-use mathlib.Core.Path.{fun_ext}
-use Rattle.std.proofs.lemmas.Bool.{eqb-true}
-use Rattle.std.proofs.lemmas.List.{append-nil, length-set, get_or-set_other}
+use Rattle.std.proofs.lemmas.List.{append-nil, length-set}
 use Rattle.gq_number.specs.Number.{Number}
 use Rattle.gms_ast.specs.declared.word.Named.{Named}
 use Rattle.gms_ast.specs.declared.declaration.DeclKind.{DeclKind}
@@ -16,28 +14,16 @@ use Rattle.gms_ast.specs.declared.program.Act.{Act}
 use Rattle.gms_ast.specs.declared.program.Act.TheVariants.{Declare, Alias, Define, Model}
 use Rattle.gms_ast.specs.declared.program.Stmt.{Stmt}
 use Rattle.gms_ast.specs.declared.program.Program.{Program}
-use Rattle.gms_store.specs.State.{Content, undeclared, alias_of, set_of, parameter_of, variable_of, equation_of, model_with, Symbol, State, no_symbol, symbol_at, base_of}
-use Rattle.gms_store.specs.Declarations.{declare_alias, declare_each, declare_model, declare_models, declared_by, is_undeclared, kind_in, model_symbol, names_of, positions_of, put_at}
+use Rattle.gms_store.specs.State.{Content, undeclared, alias_of, set_of, parameter_of, variable_of, equation_of, model_with, State, symbol_at}
+use Rattle.gms_store.specs.Declarations.{declare_alias, declare_each, declare_models, declared_by, is_undeclared, kind_in, names_of, positions_of}
 use Rattle.gms_set.specs.declared.fault.SetFault.{SetFault}
 use Rattle.gms_set.specs.Expansion.{ExpandedData, expanded}
-use Rattle.gms_scope.specs.Below.{superset_in}
 use Rattle.gms_scope.specs.Data.{is_ascending, labels_of_items}
-use Rattle.gms_scope.specs.DynamicSets.{dynamic_sets}
-use Rattle.gms_scope.specs.Entries.{above_of, names_of_entries}
 use Rattle.gms_scope.specs.Facts.{Facts, marked, model_entry, names, with_declared, with_model, with_model_name, with_unordered}
-use Rattle.gms_scope.specs.Names.{is_equation, is_index_set, has_no_declaration, declared_kind, positions}
-use Rattle.gms_check.specs.declared.error.ErrorKind.TheVariants.{WrongKind}
-use Rattle.gms_check.specs.declared.error.CompileError.{CompileError}
-use Rattle.gms_check.specs.Above.{directly_above}
+use Rattle.gms_scope.specs.Names.{is_equation, has_no_declaration, declared_kind}
 use Rattle.gms_check.specs.InnerChanges.{after_declaration, after_item, after_items, facts_after, with_given, with_model_names, with_models, with_order}
-use Rattle.gms_check.specs.InnerChecking.{known_by}
-use Rattle.gms_check.specs.CompileErrors.{act_errors, errors_after, errors_of, known_after, known_in, model_errors, models_before, of_program, statement_error}
-use Rattle.gms_check.specs.DeclarationUses.{model_uses}
-use Rattle.gms_check.specs.Errors.{first_error}
-use Rattle.gms_check.specs.Past.{Known, Past, after_act, after_statement, defines, equations_declared, equations_listed, gives_unordered, is_among, is_defined, is_unordered, models_after, models_declared_by, names_declared, numbers_of_names, state_after, with_data, with_item}
-use Rattle.gms_check.specs.Uses.{Uses, listing, modelling}
-use Rattle.gms_check.proofs.NoErrors.{AreClean, are-clean}
-use Rattle.gms_check.proofs.Outlines.{base-drawn, bounds-drawn, drawn, index-drawn, kind-drawn, positions-drawn, read-at}
+use Rattle.gms_check.specs.Past.{Past, after_act, defines, equations_declared, equations_listed, gives_unordered, models_declared_by, names_declared, numbers_of_names, with_data, with_item}
+use Rattle.gms_check.proofs.Outlines.{drawn, kind-drawn}
 use Rattle.gms_check.proofs.KnownNames.{IsKnown}
 use Rattle.gms_check.proofs.KnownFacts.{AreSettled, FactsGo, Grows, alias-goes, equation_names, goes-none, in_table, is_equation_in, item_names, items-go, items-keeps, kept-equations, model_names-keeps, models-go, settled-grows}
 use Rattle.gms_check.proofs.PastFacts.{AreFixed, Occurs, equations_before, listed_in, mark-one, occurs-more}

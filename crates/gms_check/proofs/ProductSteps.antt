@@ -6,9 +6,8 @@ use Rattle.std.proofs.lemmas.Grind.{flat_map-append}
 use Rattle.std.proofs.lemmas.List.{append-nil, take_more}
 use Rattle.gq_number.specs.Number.{Number}
 use Rattle.gms_labels.specs.declared.place.Place.{Place}
-use Rattle.gms_ast.specs.Trees.{Mark, signed, placed, Tree, Parts}
+use Rattle.gms_ast.specs.Trees.{Mark, signed, Tree}
 use Rattle.gms_ast.specs.TreeView.{parts_of}
-use Rattle.gms_check.specs.declared.error.ErrorKind.{ErrorKind}
 use Rattle.gms_check.specs.declared.error.ErrorKind.TheVariants.{WrongKind, Nonlinear}
 use Rattle.gms_check.specs.declared.expression.Operation.{Operation}
 use Rattle.gms_check.specs.declared.expression.Operation.TheVariants.{Multiplies, Divides, Raises}

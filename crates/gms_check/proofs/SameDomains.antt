@@ -1,6 +1,6 @@
 -- Domains that are compared position by position.
 use mathlib.Core.Bool.{and-false}
-use Rattle.std.proofs.Common.{◌≡◌, ◌<◌, ◌+◌, ◌&&◌, ℕ, Bool, true, false, suc, List, [], ◌∷◌, length, drop, get_or, Option, None, refl, ap, ◌∙◌}
+use Rattle.std.proofs.Common.{◌≡◌, ◌<◌, ◌+◌, ◌&&◌, ℕ, false, suc, List, [], ◌∷◌, length, drop, get_or, Option, None, refl, ap, ◌∙◌}
 use Rattle.std.specs.Prelude.{option_map}
 use Rattle.std.proofs.lemmas.List.{at_drop_more}
 use Rattle.gms_ast.specs.declared.word.Named.{Named}

@@ -1,6 +1,6 @@
 -- What holds of the parts of a program without errors.
 use Rattle.gms_check.proofs.Faultless.{none-first, none-left, none-right}
-use Rattle.std.proofs.Common.{◌≡◌, ◌≤◌, ◌<◌, ℕ, Bool, true, false, not, ◌==◌, ◌&&◌, ◌||◌, List, [], ◌∷◌, ◌++◌, length, map, refl, sym, ap, ◌∙◌, subst, append_assoc, Option, Some, None, arith}
+use Rattle.std.proofs.Common.{◌≡◌, ◌≤◌, ℕ, Bool, true, false, not, ◌==◌, ◌||◌, List, [], ◌∷◌, ◌++◌, length, refl, sym, ap, ◌∙◌, subst, append_assoc, Option, Some, None, arith}
 use Rattle.std.specs.Prelude.{is_none, nat_lt, option_to_list, All}
 use Rattle.std.specs.List.{list_any, AllByRecursion}
 use Rattle.std.proofs.lemmas.Bool.{eqb-true, and_parts, not-false}
@@ -14,13 +14,12 @@ use Rattle.gms_ast.specs.declared.program.Act.TheVariants.{Declare, Model}
 use Rattle.gms_ast.specs.declared.program.Stmt.{Stmt}
 use Rattle.gms_ast.specs.declared.program.Program.{Program}
 use Rattle.gms_ast.specs.Trees.{Indices}
-use Rattle.gms_store.specs.State.{State}
 use Rattle.gms_scope.specs.Names.{is_equation, is_index_set, is_set_name, has_no_declaration, declared_kind, positions}
 use Rattle.gms_check.specs.declared.error.ErrorKind.TheVariants.{UnknownName, WrongKind, WrongArity, DomainOfSet, DomainOfLabel, Uncontrolled, ControlledTwice, NotOrdered}
 use Rattle.gms_check.specs.declared.error.CompileError.{CompileError}
-use Rattle.gms_check.specs.Checked.{AreIndices, AreSound, IsChecked, IsReading, IsSound, FollowsIn}
+use Rattle.gms_check.specs.Checked.{AreIndices, IsChecked, IsSound}
 use Rattle.gms_check.specs.CompileErrors.{act_errors, compile_errors, errors_after, errors_of, known_after, statement_error}
-use Rattle.gms_check.specs.Controls.{is_controlled_twice, is_ordered, lagged_sets}
+use Rattle.gms_check.specs.Controls.{is_ordered, lagged_sets}
 use Rattle.gms_check.specs.Domains.{has_unfit_label, has_unfit_set, index_count, is_wrong_count}
 use Rattle.gms_check.specs.Errors.{first_error}
 use Rattle.gms_check.specs.Kinds.{has_wrong_set}

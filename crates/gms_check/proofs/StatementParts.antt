@@ -1,6 +1,6 @@
 -- A check of a statement: its parts in sequence, under the sets that they control.
-use Rattle.std.proofs.Common.{◌≡◌, ◌<◌, ◌+◌, ℕ, Bool, true, false, List, [], ◌∷◌, ◌++◌, length, take, get_or, refl, sym, ap, ◌∙◌, append_assoc, Option, Some, None}
-use Rattle.std.specs.Prelude.{flat_map, is_none}
+use Rattle.std.proofs.Common.{◌≡◌, ◌<◌, ◌+◌, ℕ, Bool, true, List, [], ◌++◌, length, take, get_or, refl, sym, ap, ◌∙◌, append_assoc}
+use Rattle.std.specs.Prelude.{flat_map}
 use Rattle.std.proofs.Math.Seq.{take-append_seam}
 use Rattle.gq_number.specs.Number.{Number}
 use Rattle.gms_labels.specs.declared.place.Place.{Place}
@@ -9,11 +9,9 @@ use Rattle.gms_ast.specs.declared.program.Act.TheVariants.{Declare, Model}
 use Rattle.gms_ast.specs.declared.program.Stmt.{Stmt}
 use Rattle.gms_scope.specs.Facts.{Facts}
 use Rattle.gms_store.specs.State.{State}
-use Rattle.gms_check.specs.declared.error.CompileError.{CompileError}
 use Rattle.gms_check.specs.InnerChanges.{facts_after}
-use Rattle.gms_check.specs.InnerChecking.{Checking, known_of, noted, with_controlled, with_facts, with_sets}
-use Rattle.gms_check.specs.CompileErrors.{act_errors, errors_of, statement_error}
-use Rattle.gms_check.specs.Errors.{first_error}
+use Rattle.gms_check.specs.InnerChecking.{Checking, noted, with_controlled, with_sets}
+use Rattle.gms_check.specs.CompileErrors.{act_errors, errors_of}
 use Rattle.gms_check.specs.Past.{Known}
 use Rattle.gms_check.specs.InnerStatements.{act_uses, is_action}
 use Rattle.gms_check.specs.StatementUses.{statement_uses}

@@ -1,8 +1,7 @@
 -- What holds of a program without compile errors: its references name what is declared, with as
 -- many indices as declared; their index sets are controlled, and ordered where they have a lag.
-use Rattle.std.specs.Prelude.{ℕ, ◌≡◌, ◌≤◌, true, false, List, [], ◌∷◌, ◌++◌, length, map, Option, None, All}
+use Rattle.std.specs.Prelude.{ℕ, ◌≡◌, ◌≤◌, true, false, List, [], ◌∷◌, ◌++◌, length, All}
 use Rattle.gq_number.specs.Number.{Number}
-use Rattle.gms_labels.specs.declared.place.Place.{Place}
 use Rattle.gms_ast.specs.declared.expression.Suffix.{Suffix}
 use Rattle.gms_ast.specs.declared.program.Stmt.{Stmt}
 use Rattle.gms_ast.specs.declared.program.Program.{Program}
@@ -16,13 +15,14 @@ use Rattle.gms_scope.specs.Names.{is_equation, is_index_set, is_set_name, has_no
 use Rattle.gms_check.specs.Domains.{index_count, has_unfit_set, has_unfit_label}
 use Rattle.gms_check.specs.Controls.{lagged_sets, is_controlled_twice, is_ordered}
 use Rattle.gms_check.specs.declared.error.ErrorKind.{ErrorKind}
-use Rattle.gms_check.specs.CompileErrors.{compile_errors, has_error, known_after}
+use Rattle.gms_check.specs.CompileErrors.{has_error, known_after}
 use Rattle.gms_check.specs.Loaded.{sound}
 
 module _ {F : Type 0} where
-  -- Indices that fit a name: they are as many as its positions, and at most 10. Each set is
-  -- one-dimensional, and is the set of its position or below that by domain sets; each label is a
-  -- member of the set of its position; and each set with a lag is ordered.
+  -- Indices that fit a name: they are as many as its positions, and at most 10. Each set among them
+  -- is one-dimensional, and ordered if it has a lag. Where the domain of the name has a set at a
+  -- position, that set is one-dimensional and declared before the name, and the index there is a
+  -- label that is a member of that set, or that set itself, or a set below it by domain sets.
   pub record AreIndices (known : Known F) (name : ℕ) (indices : Indices F) : Type 0 where
     pub count : index_count indices ≡ length (positions known.state name)
     pub few : index_count indices ≤ 10
@@ -65,9 +65,10 @@ module _ {F : Type 0} where
   abbrev pub FollowsIn : Program F → List (Stmt F) → Stmt F → Type 0
   FollowsIn program before statement = (rest : List (Stmt F)) × (program.statements.items ≡ before ++ statement ∷ rest)
 
-  -- in a program without errors all uses of each statement are sound, by what is known after the
-  -- statements before it; `value` gives the number that a value of `F` means, and `solvers` are the
-  -- names of the solvers
+  -- all uses of each statement of the program are sound, by what is known after the statements
+  -- before it, each marked as one without an error; no sets are controlled around the statement
+  -- (`[]`). `value` gives the number that a value of `F` means, and `solvers` are the names of the
+  -- solvers
   abbrev pub IsChecked : (F → Number) → Program F → List (List ℕ) → Type 0
   IsChecked value program solvers =
       (before : List (Stmt F)) (statement : Stmt F) → FollowsIn program before statement → AreSound (known_after value program solvers (sound before)) (statement_uses statement (known_after value program solvers (sound before)).state [])

@@ -9,16 +9,19 @@ use Rattle.gms_store.specs.declared.kind.SymbolKind.TheVariants as kind
 use Rattle.gms_check.specs.declared.contexts.Context.{Context}
 
 -- the context of what has to be a number: the right side of an assignment to a parameter or an
--- attribute, an operand of a relation, the amount of a lag
+-- attribute, an operand of a relation, the amount of a lag. No variables without suffix may occur,
+-- no sets, and neither `yes` nor `no` (`membership`)
 abbrev pub as_number : Context
 as_number = record { numbers = true; variables = false; sets = false; membership = false }
 
--- the context of one side of an equation: a number, in which variables may occur
+-- the context of one side of an equation: a number, in which variables may occur, but no sets, and
+-- neither `yes` nor `no` (`membership`)
 abbrev pub as_side : Context
 as_side = record { numbers = true; variables = true; sets = false; membership = false }
 
 -- the context of a condition, of an operand of `and`, `or` and `xor`, and, except on the right side
--- of an assignment to a set, of the operand of `not`: numbers and sets
+-- of an assignment to a set, of the operand of `not`: numbers and sets may occur, but no variables
+-- without suffix, and neither `yes` nor `no` (`membership`)
 abbrev pub as_condition : Context
 as_condition = record { numbers = true; variables = false; sets = true; membership = false }
 
@@ -27,7 +30,8 @@ abbrev pub as_members : Context
 as_members = record { numbers = false; variables = false; sets = true; membership = true }
 
 -- the context of an operand of a sum, a product, a power or a minus sign, in an expression with the
--- context `at`: the same, but sets may occur only on the right side of an assignment to a set
+-- context `at`: the same, but sets may occur only where `yes` and `no` may, that is, on the right
+-- side of an assignment to a set
 abbrev pub as_part : Context → Context
 as_part at = record { numbers = at.numbers; variables = at.variables; sets = at.membership; membership = at.membership }
 
@@ -38,12 +42,13 @@ as_guarded at = record { numbers = at.numbers; variables = at.variables; sets = 
 
 -- the context of an argument of a function, or of the body of a `sum` or another fold, in an
 -- expression with the context `at`: a number, in which variables may occur if they may in the
--- expression
+-- expression, but no sets, and neither `yes` nor `no` (`membership`)
 abbrev pub as_inner : Context → Context
 as_inner at = record { numbers = true; variables = at.variables; sets = false; membership = false }
 
--- the context of the operand of `not` in an expression with the context `at`: `at` itself on the
--- right side of an assignment to a set, otherwise that of a condition
+-- the context of the operand of `not` in an expression with the context `at`: `at` itself where
+-- `yes` and `no` may occur, that is, on the right side of an assignment to a set, otherwise that of
+-- a condition
 abbrev pub as_denied : Context → Context
 as_denied at = if at.membership then at else as_condition
 

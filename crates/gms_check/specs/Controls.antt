@@ -1,7 +1,7 @@
 -- Which sets are controlled, and which are ordered (GAMS User's Guide, "Data Manipulation", indexed
 -- operations; "Sets as Sequences: Ordered Sets"). A set is controlled by its name, and not by the
 -- set that an alias stands for; this is the project's own choice.
-use Rattle.std.specs.Prelude.{ℕ, Bool, true, false, not, ◌&&◌, ◌||◌, List, [], ◌∷◌, ◌++◌}
+use Rattle.std.specs.Prelude.{ℕ, Bool, false, not, ◌&&◌, ◌||◌, List, [], ◌∷◌, ◌++◌}
 use Rattle.std.specs.List.{list_any}
 use Rattle.gms_ast.specs.Trees.{Indices, no_index, label, set, lagged}
 use Rattle.gms_store.specs.State.{base_of}
@@ -16,13 +16,14 @@ is_controlled_twice controlled [] = false
 is_controlled_twice controlled (name ∷ sets) = is_among controlled name || is_controlled_twice (controlled ++ name ∷ []) sets
 
 module _ {F : Type 0} where
-  -- Uncontrolled: a set that is an index, or the argument of `ord`, is not controlled
+  -- Uncontrolled: a set that is an index of a reference, or the argument of `ord`, is not
+  -- controlled
   abbrev pub uncontrolled : Known F → Use F → Bool
   uncontrolled known (reading context controlled name suffix indices) = list_any (λ index. not (is_among controlled index)) (index_sets indices)
   uncontrolled known (ordinal context controlled name) = not (is_among controlled name)
   uncontrolled known used = false
 
-  -- ControlledTwice: a fold or a loop controls a set that is already controlled
+  -- ControlledTwice: a fold or a loop controls a set that is already controlled, or one set twice
   abbrev pub controlled_twice : Known F → Use F → Bool
   controlled_twice known (controlling controlled sets) = is_controlled_twice controlled sets
   controlled_twice known used = false

@@ -14,7 +14,7 @@ use Rattle.gms_store.specs.State.{State}
 use Rattle.gms_store.specs.Declarations.{names_of, positions_of}
 use Rattle.gms_set.specs.declared.fault.SetFault.{SetFault}
 use Rattle.gms_set.specs.Expansion.{ExpandedData, expanded}
-use Rattle.gms_check.specs.Uses.{Use, Uses, naming, not_continuous, bounding, placing, failing, modelling, listing}
+use Rattle.gms_check.specs.Uses.{Uses, naming, not_continuous, bounding, placing, failing, modelling, listing}
 use Rattle.gms_check.specs.Past.{Known}
 use Rattle.gms_scope.specs.Names.{is_index_set}
 use Rattle.gms_check.specs.Domains.{is_wrong_count}
@@ -50,14 +50,15 @@ module _ {F : Type 0} where
   abbrev pub has_all_parts : List (Option ℕ) → Item F → Bool
   has_all_parts domain item = not (is_wrong_count (length domain) (length item.parts))
 
-  -- the use that reports the fault of a list of data; none if it has no fault
+  -- the fault of a list of data as a use, which is what a check examines, at the fault's place;
+  -- none if the list has no fault
   abbrev pub failure : Result (ExpandedData F) SetFault → Uses F
   failure (Ok given) = []
   failure (Err fault) = (fault.at, failing fault.error) ∷ []
 
   -- the use that reports the fault of a list of data, if it has one. It is a fault of the items
-  -- before the first one with a wrong number of positions; none is reported if the domain itself is
-  -- wrong
+  -- before the first one with a wrong number of positions; none is reported if the domain has more
+  -- than 10 positions or a set that is not one-dimensional
   abbrev pub expansion_uses : Known F → List (Option ℕ) → List (Item F) → Uses F
   expansion_uses known domain items =
       if are_usable known domain then failure (expanded known.state domain (take_while (has_all_parts domain) items)) else []
@@ -68,8 +69,8 @@ module _ {F : Type 0} where
   data_uses known domain items =
       map (λ (item : Item F). (item.at, placing (length domain) (length item.parts))) items ++ expansion_uses known domain items
 
-  -- the uses of one name in a declaration of this kind: the name, the sets of its domain, and its
-  -- data
+  -- the uses of one name in a declaration of this kind: the name, the sets of its written domain,
+  -- and its data, for the positions that its kind and written domain give
   abbrev pub item_uses : Known F → DeclKind → Decl F → Uses F
   item_uses known kind item =
       (item.named.at, naming kind item.named.name (names_of item.domain)) ∷ (flat_map domain_use item.domain ++ data_uses known (positions_of kind (names_of item.domain)) item.items)

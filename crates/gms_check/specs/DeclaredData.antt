@@ -69,8 +69,8 @@ module _ {F : Type 0} where
       (before : List (Stmt F)) (statement : Stmt F) → FollowsIn program before statement → is_among (names_declared statement.act) name ≡ false
 
 module _ {F : Type 0} (value : F → Number) where
-  -- the value that a datum gives to a parameter; 0 if no item has the tuple, or the item has no
-  -- value
+  -- the value that a datum gives to a parameter at a tuple; 0 if no item has the tuple, or the item
+  -- has no value. `value` gives the number that a value of `F` means
   abbrev pub value_put : Option (Option (Ext F)) → Extended
   value_put (Some (Some x)) = extended value x
   value_put datum = zero

@@ -1,7 +1,7 @@
 -- Numbers of indices, and indices and labels against the domains of names (GAMS User's Guide, "Set
 -- Definition", domain checking; "Dynamic Sets"). A dynamic set is no domain; this is the project's
 -- own choice.
-use Rattle.std.specs.Prelude.{ℕ, zero, suc, Bool, true, false, not, ◌&&◌, ◌||◌, ◌==◌, ◌+◌, nat_lt, List, [], ◌∷◌, length, Option, Some, None, if◌then◌else◌}
+use Rattle.std.specs.Prelude.{ℕ, Bool, true, false, not, ◌||◌, ◌==◌, ◌+◌, nat_lt, List, [], length, Option}
 use Rattle.gms_ast.specs.Trees.{Indices, no_index, label, set, lagged}
 use Rattle.gms_store.specs.Declarations.{positions_of}
 use Rattle.gms_set.specs.declared.fault.SetError.TheVariants.{Outside}
@@ -10,7 +10,7 @@ use Rattle.gms_check.specs.Past.{Known, is_dynamic}
 use Rattle.gms_scope.specs.Names.{positions}
 use Rattle.gms_check.specs.IndexList.{have_unfit_label, have_unfit_set}
 
--- whether a number of indices is not the expected one, or over 10
+-- whether `count`, a number of indices or positions, is not the expected one, or over 10
 abbrev pub is_wrong_count : ℕ → ℕ → Bool
 is_wrong_count expected count = not (count == expected) || nat_lt 10 count
 
@@ -34,26 +34,30 @@ module _ {F : Type 0} where
   wrong_arity known (placing expected count) = is_wrong_count expected count
   wrong_arity known used = false
 
-  -- whether some set among the indices of `name` may not be at its position: it is neither the set
-  -- that `domain` has there nor below that
+  -- whether some set among the indices of `name` may not be at its position, where `domain` has a
+  -- set: it is neither that set nor below it by domain sets, or that set is not one-dimensional or
+  -- not declared before `name`
   abbrev pub has_unfit_set : Known F → ℕ → List (Option ℕ) → Indices F → Bool
   has_unfit_set known name domain indices = have_unfit_set known.state known.declared known.above name domain indices
 
-  -- whether some label among the indices of `name` may not be at its position: it is no member of
-  -- the set that `domain` has there
+  -- whether some label among the indices of `name` may not be at its position, where `domain` has a
+  -- set: it is no member of that set, or that set is not one-dimensional or not declared before
+  -- `name`
   abbrev pub has_unfit_label : Known F → ℕ → List (Option ℕ) → Indices F → Bool
   has_unfit_label known name domain indices = have_unfit_label known.state known.declared name domain indices
 
   -- DomainOfSet: an index is a set that is neither the set of its position nor below that by domain
-  -- sets
+  -- sets, or the set of its position is not one-dimensional or not declared before the name that
+  -- has the index
   abbrev pub domain_of_set : Known F → Use F → Bool
   domain_of_set known (reading context controlled name suffix indices) = has_unfit_set known name (positions known.state name) indices
   domain_of_set known (assigning name suffix indices) = has_unfit_set known name (positions known.state name) indices
   domain_of_set known (defining name indices) = has_unfit_set known name (positions known.state name) indices
   domain_of_set known used = false
 
-  -- DomainOfLabel: an index, or an element of data, has a label that the set of its position does
-  -- not have
+  -- DomainOfLabel: an index is a label that the set of its position does not have, or that set is
+  -- not one-dimensional or not declared before the name that has the index; or an element of data
+  -- has a label that the set of its position does not have (`Outside`)
   abbrev pub domain_of_label : Known F → Use F → Bool
   domain_of_label known (reading context controlled name suffix indices) = has_unfit_label known name (positions known.state name) indices
   domain_of_label known (assigning name suffix indices) = has_unfit_label known name (positions known.state name) indices

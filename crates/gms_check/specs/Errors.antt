@@ -55,7 +55,7 @@ error_name Function = codes "Function"
 error_name DataFault = codes "DataFault"
 error_name Restart = codes "Restart"
 
--- whether a place comes before another in the source
+-- whether the place `a` comes before the place `b` in the source
 abbrev pub precedes : Place → Place → Bool
 precedes a b = nat_lt a.line b.line || a.line == b.line && nat_lt a.column b.column
 
@@ -63,7 +63,7 @@ precedes a b = nat_lt a.line b.line || a.line == b.line && nat_lt a.column b.col
 abbrev pub same_place : Place → Place → Bool
 same_place a b = a.line == b.line && a.column == b.column
 
--- whether an error comes before another: by its place, and at one place by its number
+-- whether the error `a` comes before the error `b`: by its place, and at one place by its number
 abbrev pub comes_first : CompileError → CompileError → Bool
 comes_first a b = precedes a.at b.at || same_place a.at b.at && nat_lt (error_code a.kind) (error_code b.kind)
 

@@ -1,7 +1,7 @@
 -- What a statement adds to what is known (GAMS User's Guide, "Set Definition", "Data Entry:
 -- Parameters, Scalars and Tables", "Equations", "Model and Solve Statements"). Names of a statement
 -- with an error count as declared, and its data as not given; this is the project's own rule.
-use Rattle.std.specs.Prelude.{ℕ, Bool, true, false, not, List, [], ◌∷◌, Option, Result, Ok, Err, if◌then◌else◌}
+use Rattle.std.specs.Prelude.{ℕ, Bool, true, false, List, [], Result, Ok, Err, if◌then◌else◌}
 use Rattle.std.specs.List.{fold}
 use Rattle.gq_number.specs.Number.{Number}
 use Rattle.gms_ast.specs.declared.declaration.DeclKind.{DeclKind}
@@ -15,7 +15,7 @@ use Rattle.gms_set.specs.declared.fault.SetFault.{SetFault}
 use Rattle.gms_set.specs.Expansion.{ExpandedData, expanded}
 use Rattle.gms_scope.specs.Data.{is_ascending, labels_of_items}
 use Rattle.gms_scope.specs.Facts.{Facts, with_alias, facts_with_data, with_declared, with_definition, with_model, with_model_name, with_unordered}
-use Rattle.gms_check.specs.Past.{equations_listed, numbers_of_names}
+use Rattle.gms_check.specs.Past.{equations_listed}
 
 -- what is known after models were declared, without their equations
 abbrev pub with_model_names : Facts → List ModelDecl → Facts

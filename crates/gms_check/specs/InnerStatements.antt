@@ -1,6 +1,5 @@
 -- What an act of a statement uses, and which acts are no declarations of names or models.
-use Rattle.std.specs.Prelude.{ℕ, Bool, true, false, List}
-use Rattle.gms_labels.specs.declared.place.Place.{Place}
+use Rattle.std.specs.Prelude.{Bool, true, false}
 use Rattle.gms_ast.specs.declared.program.Act.{Act, fold-Act}
 use Rattle.gms_ast.specs.declared.program.Act.TheVariants.{Declare, Model}
 use Rattle.gms_check.specs.StatementUses.{UsesOfAct, UsesOfStatement, act_uses_step, statement_uses_step}

@@ -1,7 +1,7 @@
 -- Names that are declared in sequence, with the data of those that have no error, until the whole
 -- declaration is known to have none (GAMS User's Guide, "Set Definition"; "Data Entry: Parameters,
 -- Scalars and Tables").
-use Rattle.std.specs.Prelude.{ℕ, Bool, true, false, List, [], ◌∷◌, ◌++◌, if◌then◌else◌}
+use Rattle.std.specs.Prelude.{ℕ, Bool, List, [], ◌∷◌, ◌++◌, if◌then◌else◌}
 use Rattle.std.specs.List.{fold}
 use Rattle.gq_number.specs.Number.{Number}
 use Rattle.gms_ast.specs.declared.declaration.DeclKind.{DeclKind}

@@ -1,7 +1,7 @@
 -- Symbols, values and functions in contexts that do not admit their kind (GAMS User's Guide, "Data
 -- Manipulation"; "Variables", attributes; "Equations"; "Model and Solve Statements"; "Display").
 -- Which functions there are is this project's own choice.
-use Rattle.std.specs.Prelude.{ℕ, Bool, true, false, not, ◌&&◌, ◌||◌, ◌==◌, ◌+◌, nat_lt, List, [], ◌∷◌, length}
+use Rattle.std.specs.Prelude.{ℕ, Bool, true, false, not, ◌&&◌, ◌||◌, ◌==◌, ◌+◌, nat_lt, List, [], ◌∷◌}
 use Rattle.std.specs.List.{list_any}
 use Rattle.gms_ast.specs.declared.expression.Function.{Function}
 use Rattle.gms_ast.specs.declared.expression.Function.TheVariants as function
@@ -9,7 +9,6 @@ use Rattle.gms_ast.specs.declared.expression.Suffix.TheVariants as suffix
 use Rattle.gms_ast.specs.Trees.{Tree, number, reference, Parts, no_part, part, Indices, no_index}
 use Rattle.gms_store.specs.declared.kind.SymbolKind.{SymbolKind}
 use Rattle.gms_store.specs.declared.kind.SymbolKind.TheVariants as kind
-use Rattle.gms_check.specs.declared.contexts.Context.{Context}
 use Rattle.gms_check.specs.Contexts.{as_condition, may_occur, may_be_assigned}
 use Rattle.gms_check.specs.Uses.{Use, literal, truth, reading, ordinal, cardinal, calling, folding, controlling, stepping, multiplies, divides, raises, logic, assigning, defining, shifting, not_continuous, bounding, first_alias, second_alias, listing, solving, optimizing, showing, index_sets}
 use Rattle.gms_check.specs.Past.{Known}
@@ -62,8 +61,8 @@ may_shift kind scalar = false
 
 module _ {F : Type 0} where
   -- whether an expression may be the amount of a lag on the left of an assignment or a definition:
-  -- a literal integer or a scalar (or a variable without suffix or indices, which has another
-  -- error, Endogenous)
+  -- a literal integer or a scalar (or a variable without suffix, which has another error,
+  -- Endogenous)
   abbrev pub is_target_amount : Known F → Tree F → Bool
   is_target_amount known (number n) = is_whole (known.value n)
   is_target_amount known (reference at name suffix.None indices) =
@@ -74,11 +73,13 @@ module _ {F : Type 0} where
   abbrev pub has_wrong_set : Known F → List ℕ → Bool
   has_wrong_set known names = list_any (λ name. not (is_index_set known.state name)) names
 
-  -- WrongKind: a symbol with its suffix, a number, an infinity, `yes` or `no`, a function, a fold
-  -- or an operation occurs in a context that does not admit it; `ord`, `card` or an alias is of no
-  -- set; an index, a control or a domain has a name that is no one-dimensional set; an amount of a
-  -- lag on the left is neither a literal integer nor a scalar; what is assigned, defined, listed in
-  -- a model, solved, optimized or displayed is of another kind
+  -- WrongKind: a symbol with its suffix, a number, an infinity, NA, `yes` or `no`, `ord`, `card`, a
+  -- function, a fold, a division, a power, a relation, `and`, `or` or `xor` occurs in a context
+  -- that does not admit it (a multiplication may occur in any); `ord` or `card` is of no set; a
+  -- name of an alias is declared before, but is no set; an index, a control or a domain has a name
+  -- that is no one-dimensional set; an amount of a lag on the left is neither a literal integer nor
+  -- a scalar; what is assigned, defined, listed in a model, solved, optimized or displayed is of a
+  -- kind that does not admit this
   abbrev pub wrong_kind : Known F → Use F → Bool
   wrong_kind known (literal context) = not context.numbers
   wrong_kind known (truth context) = not context.membership

@@ -1,6 +1,6 @@
 -- Where variables occur, and which operations of an equation are not linear (GAMS User's Guide,
 -- "Equations"; "Model and Solve Statements", linear programs).
-use Rattle.std.specs.Prelude.{ℕ, Bool, true, false, not, ◌&&◌, ◌||◌, List}
+use Rattle.std.specs.Prelude.{ℕ, Bool, true, false, not, ◌&&◌, ◌||◌}
 use Rattle.std.specs.List.{list_any}
 use Rattle.gms_ast.specs.declared.expression.Suffix.{Suffix}
 use Rattle.gms_ast.specs.declared.expression.Suffix.TheVariants as suffix

@@ -19,6 +19,7 @@ module _ {F : Type 0} where
   abbrev pub loaded : (F → Number) → Program F → State
   loaded value program = state_after value (length program.names) (sound program.statements.items)
 
-  -- for some list of names of solvers, the program has no compile error
+  -- for some list of names of solvers, the program has no compile error. `value` gives the number
+  -- that a value of `F` means
   abbrev pub IsAccepted : (F → Number) → Program F → Type 0
   IsAccepted value program = (solvers : List (List ℕ)) × (compile_errors value program solvers ≡ [])

@@ -2,7 +2,7 @@
 -- Guide, "Language Items", rules on declarations; "Set Definition", the alias statement;
 -- "Variables"). The order of the names of an alias, and when a variable may be given a type once
 -- more, are this project's own choice.
-use Rattle.std.specs.Prelude.{ℕ, Bool, true, false, not, ◌&&◌, ◌||◌, ◌==◌, List, [], ◌∷◌, length, Option, Some, None}
+use Rattle.std.specs.Prelude.{ℕ, Bool, true, false, not, ◌&&◌, ◌==◌, List, [], ◌∷◌, Option, Some, None}
 use Rattle.std.specs.List.{list_any}
 use Rattle.gms_ast.specs.declared.declaration.DeclKind.{DeclKind}
 use Rattle.gms_store.specs.State.{State, Content, variable_of, symbol_at, base_of}
@@ -30,8 +30,8 @@ same_domain state [] [] = true
 same_domain state (a ∷ as_) (b ∷ bs) = same_position state a b && same_domain state as_ bs
 same_domain state as_ bs = false
 
--- whether the written domain of a later declaration is empty, or has the positions of the domain
--- `old` of the name
+-- whether the domain of a later declaration is empty, or is the domain `old` of the name, an alias
+-- replaced by its set
 abbrev pub repeats_domain : State → List (Option ℕ) → List (Option ℕ) → Bool
 repeats_domain state [] old = true
 repeats_domain state domain old = same_domain state domain old
@@ -52,8 +52,8 @@ module _ {F : Type 0} where
   names_used (showing name suffix) = name ∷ []
   names_used used = []
 
-  -- UnknownName: no statement before declares a name that is used, or either name of an alias; or
-  -- the word of an option is that of no option
+  -- UnknownName: no statement before declares a name that is used; for an alias, no statement
+  -- before declares either of its two names; or the word of an option is that of no option
   abbrev pub unknown_name : Known F → Use F → Bool
   unknown_name known (first_alias first second) = has_no_declaration known.state first && has_no_declaration known.state second
   unknown_name known (option_word word) = not (is_option word)

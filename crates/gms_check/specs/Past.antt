@@ -2,14 +2,13 @@
 -- Definition", "Data Entry: Parameters, Scalars and Tables", "Equations", "Model and Solve
 -- Statements"). The names of a statement with an error count as declared, and its data as not
 -- given; this is the project's own rule.
-use Rattle.std.specs.Prelude.{ℕ, Bool, true, false, not, ◌&&◌, ◌==◌, nat_lt, List, [], ◌∷◌, ◌++◌, map, flat_map, filter, find, Option, Some, None, Result, Ok, Err, option_map, unwrap_or, if◌then◌else◌}
+use Rattle.std.specs.Prelude.{ℕ, Bool, true, false, not, ◌&&◌, ◌==◌, List, [], ◌∷◌, ◌++◌, map, flat_map, Option, Result, Ok, Err, if◌then◌else◌}
 use Rattle.std.specs.List.{fold, list_any}
 use Rattle.gq_number.specs.Number.{Number}
 use Rattle.gms_ast.specs.declared.word.Named.{Named}
 use Rattle.gms_ast.specs.declared.declaration.DeclKind.{DeclKind}
 use Rattle.gms_ast.specs.declared.declaration.DeclKind.TheVariants as declaring
 use Rattle.gms_ast.specs.declared.declaration.Decl.{Decl}
-use Rattle.gms_ast.specs.declared.declaration.Item.{Item}
 use Rattle.gms_ast.specs.declared.declaration.ModelDecl.{ModelDecl}
 use Rattle.gms_ast.specs.declared.program.Act.{Act}
 use Rattle.gms_ast.specs.declared.program.Act.TheVariants.{Declare, Alias, Define, Model}
@@ -84,22 +83,22 @@ module _ {F : Type 0} where
 
   -- ---- the order of a set's labels
 
-  -- whether an act declares the set of this name with its labels in another order than that in
-  -- which labels first occur in the program
+  -- whether an act declares the set of this name with labels whose numbers do not ascend, that is,
+  -- in another order than that in which labels first occur in the program
   abbrev pub gives_unordered : ℕ → Act F → Bool
   gives_unordered name (Declare declaring.Set items) = list_any (λ (item : Decl F). item.named.name == name && not (is_ascending (labels_of_items item.items))) items
   gives_unordered name act = false
 
-  -- whether some statement without an error declares the set of this name with its labels in
-  -- another order than that in which labels first occur in the program
+  -- whether some statement of `past` without an error declares the set of this name with its labels
+  -- in another order than that in which labels first occur in the program
   abbrev pub is_unordered : Past F → ℕ → Bool
   is_unordered past name = list_any (λ p. p.1 && gives_unordered name p.0.act) past
 
 module _ {F : Type 0} (value : F → Number) where
   -- ---- the state
 
-  -- the state after the expanded data of a name were written; the state unchanged if the expansion
-  -- has a fault
+  -- the state after the expanded data of a name were written to it; the state unchanged if the
+  -- expansion has a fault. `value` gives the number that a value of `F` means
   abbrev pub with_data : State → ℕ → Result (ExpandedData F) SetFault → State
   with_data state name (Ok given) = given_to value name state given
   with_data state name (Err fault) = state
@@ -108,7 +107,8 @@ module _ {F : Type 0} (value : F → Number) where
   abbrev pub with_name : DeclKind → State → Decl F → State
   with_name kind state item = declare kind (names_of item.domain) state item.named.name
 
-  -- the state after one name of a declaration of this kind was declared, with its data
+  -- the state after one name of a declaration of this kind was declared, with its data; without
+  -- them if they have a fault
   abbrev pub with_item : DeclKind → State → Decl F → State
   with_item kind state item =
       with_data (with_name kind state item) item.named.name (expanded state (positions_of kind (names_of item.domain)) item.items)

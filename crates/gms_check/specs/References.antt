@@ -36,7 +36,7 @@ use Rattle.gms_check.specs.Uses.{sets_of_control}
 pub data Asking (F : Type 0) : Type 0 where
   -- a reference: a name, a suffix and indices
   reads : ℕ → Suffix → Indices F → Asking F
-  -- `ord` of a set, the position of its label
+  -- `ord` of a set, that is, the position in it of its current label
   orders : ℕ → Asking F
 
 mutual
@@ -74,14 +74,17 @@ mutual
     in_guard : {what : Asking F} {around : List ℕ} {operand : Tree F} {guards : Parts F} →
         InParts within what around guards → InTree within what around (guarded operand guards)
 
-  -- A reference or `ord` occurs in one of the operands, arguments or conditions of a node.
+  -- A reference or `ord` occurs in one of the operands, arguments or conditions of a node. The sets
+  -- `around` are controlled where the node is, and the sets `within` where the reference or `ord`
+  -- is.
   pub data InParts {F : Type 0} (within : List ℕ) : Asking F → List ℕ → Parts F → Type 0 where
     in_part : {what : Asking F} {around : List ℕ} {mark : Mark} {tree : Tree F} {rest : Parts F} →
         InTree within what around tree → InParts within what around (part mark tree rest)
     in_later_part : {what : Asking F} {around : List ℕ} {mark : Mark} {tree : Tree F} {rest : Parts F} →
         InParts within what around rest → InParts within what around (part mark tree rest)
 
-  -- A reference or `ord` occurs in the amount of a lag among indices.
+  -- A reference or `ord` occurs in the amount of a lag among indices. The sets `around` are
+  -- controlled where the indices are, and the sets `within` where the reference or `ord` is.
   pub data InIndices {F : Type 0} (within : List ℕ) : Asking F → List ℕ → Indices F → Type 0 where
     in_lag : {what : Asking F} {around : List ℕ} {name : ℕ} {op : LagOp} {at : Place} {amount : Tree F} {rest : Indices F} →
         InTree within what around amount → InIndices within what around (lagged name op at amount rest)
@@ -92,8 +95,9 @@ mutual
     after_lag : {what : Asking F} {around : List ℕ} {name : ℕ} {op : LagOp} {at : Place} {amount : Tree F} {rest : Indices F} →
         InIndices within what around rest → InIndices within what around (lagged name op at amount rest)
 
-  -- A reference or `ord` occurs in the condition of a control, where the sets of the control are
-  -- controlled too.
+  -- A reference or `ord` occurs in the condition of a control. The sets `around` are controlled
+  -- where the control is, in its condition also those of the control, and the sets `within` where
+  -- the reference or `ord` is.
   pub data InControl {F : Type 0} (within : List ℕ) : Asking F → List ℕ → Control F → Type 0 where
     in_where : {what : Asking F} {around sets : List ℕ} {condition : Tree F} →
         InTree within what (around ++ sets) condition → InControl within what around (over_where sets condition)
@@ -112,7 +116,8 @@ module _ {F : Type 0} where
         InTree within what (with_left loops target.indices) (tree_of condition) → InAct within what loops act
     on_the_right : (target : Target F) (condition : Option (Expr F)) (right_at : Place) (right : Expr F) → act ≡ Assign target condition right_at (Value right) →
         InTree within what (with_left loops target.indices) (tree_of right) → InAct within what loops act
-    -- in the condition of a definition, and in its two sides
+    -- in the condition of a definition, and in its two sides: there the sets on the left are
+    -- controlled too
     in_definition_condition : (equation : Named) (indices : List (Index F)) (condition : Expr F) (left_at : Place) (left : Expr F) (side : Side) (right_at : Place) (right : Expr F) →
         act ≡ Define equation indices (Some condition) left_at left side right_at right →
         InTree within what (with_left loops indices) (tree_of condition) → InAct within what loops act

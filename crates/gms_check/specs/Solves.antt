@@ -1,7 +1,7 @@
 -- What a solve requires of its model, of the word after `using` and of its objective, and which
 -- options and definitions are wrong (GAMS User's Guide, "Equations"; "Model and Solve Statements";
 -- "The Option Statement").
-use Rattle.std.specs.Prelude.{ℕ, Bool, true, false, not, ◌&&◌, codes}
+use Rattle.std.specs.Prelude.{Bool, true, false, not, ◌&&◌, codes}
 use Rattle.std.specs.List.{list_any}
 use Rattle.std.specs.Str.{str_eq_ignore_ascii_case}
 use Rattle.gms_store.specs.State.{symbol_at}
@@ -47,8 +47,8 @@ module _ {F : Type 0} where
   option_range known (option_value word setting) = not (is_in_range known.value word setting)
   option_range known used = false
 
-  -- DataFault: a list of data has a range whose two labels form none, an element twice, or too many
-  -- elements
+  -- DataFault: a list of data has a range whose two labels make no range (`BadRange`), an element
+  -- twice (`Repeated`), or more elements than a list may have (`Full`)
   abbrev pub data_fault : Known F → Use F → Bool
   data_fault known (failing BadRange) = true
   data_fault known (failing Repeated) = true

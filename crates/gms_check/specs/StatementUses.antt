@@ -14,26 +14,26 @@ use Rattle.gms_ast.specs.declared.program.Right.TheVariants.{Value}
 use Rattle.gms_ast.specs.declared.program.Stmt.{Stmt}
 use Rattle.gms_ast.specs.declared.program.Act.TheOpen.{Act-F, Stmt-F}
 use Rattle.gms_ast.specs.declared.program.Act.TheFolds.{fold-Stmt}
-use Rattle.gms_ast.specs.Trees.{Tree, Indices}
+use Rattle.gms_ast.specs.Trees.{Indices}
 use Rattle.gms_ast.specs.TreeView.{indices_of, tree_of, index_tree, control_tree}
 use Rattle.gms_store.specs.State.{State, symbol_at}
 use Rattle.gms_store.specs.Declarations.{is_set}
 use Rattle.gms_check.specs.declared.contexts.Context.{Context}
 use Rattle.gms_check.specs.Contexts.{as_number, as_side, as_members}
-use Rattle.gms_check.specs.Uses.{Use, Uses, assigning, defining, first_alias, second_alias, solving, method, optimizing, showing, option_word, option_value, sets_of_control, index_sets, uses, control_uses, shift_uses, condition_uses}
+use Rattle.gms_check.specs.Uses.{Uses, assigning, defining, first_alias, second_alias, solving, method, optimizing, showing, option_word, option_value, sets_of_control, index_sets, uses, control_uses, shift_uses, condition_uses}
 
 -- the context of the right side of an assignment to a name: that of members for a set, that of a
 -- number for any other name
 abbrev pub right_context : State → ℕ → Context
 right_context state name = if is_set (symbol_at state name).content then as_members else as_number
 
--- the uses of a statement, by the state after the declarations before it and the sets that are
--- controlled around it
+-- the uses of a statement, that is, what it uses, each with its place, by the state after the
+-- declarations before it and the sets that are controlled around it
 abbrev pub UsesOfStatement : Type 0 → Type 0
 UsesOfStatement F = State → List ℕ → Uses F
 
--- the uses of an act, by the state after the declarations before it, the place of its statement,
--- and the sets that are controlled around it
+-- the uses of an act, that is, what it uses, each with its place, by the state after the
+-- declarations before it, the place of its statement, and the sets that are controlled around it
 abbrev pub UsesOfAct : Type 0 → Type 0
 UsesOfAct F = State → Place → List ℕ → Uses F
 
@@ -61,14 +61,15 @@ module _ {F : Type 0} where
   abbrev pub with_left : List ℕ → List (Index F) → List ℕ
   with_left controlled indices = controlled ++ index_sets (index_list indices)
 
-  -- the uses in a left side with these indices, in a statement at this place: those in the amounts
-  -- of its lags, and those in the condition after it
+  -- the uses in a left side with these indices, in a statement at the place `at`: those of the
+  -- amounts of its lags, and those in the condition after it; the sets `controlled` are controlled
+  -- there
   abbrev pub left_uses : Place → List ℕ → List (Index F) → Option (Expr F) → Uses F
   left_uses at controlled indices condition =
       shift_uses controlled (index_list indices) ++ condition_uses at controlled (option_map tree_of condition)
 
-  -- the uses of an act, in which each statement of a loop's body is replaced by its uses; none of a
-  -- declaration or a model statement
+  -- the uses of an act, in which each statement of a loop's body is replaced by the function that
+  -- gives its uses; none of a declaration or a model statement
   abbrev pub act_uses_step : Act-F F (UsesOfAct F) (UsesOfStatement F) → UsesOfAct F
   act_uses_step (Act-F.Declare kind items) state at controlled = []
   act_uses_step (Act-F.Alias first second) state at controlled =
@@ -87,7 +88,8 @@ module _ {F : Type 0} where
   act_uses_step (Act-F.Abort condition items) state at controlled =
       condition_uses at controlled (option_map tree_of condition) ++ flat_map show_uses items
 
-  -- the uses of a statement: those of its act, at its place
+  -- the uses of a statement, in which the act is replaced by the function that gives its uses:
+  -- these, at the statement's place
   abbrev pub statement_uses_step : Stmt-F F (UsesOfAct F) (UsesOfStatement F) → UsesOfStatement F
   statement_uses_step statement state controlled = statement.act state statement.at controlled
 

@@ -1,14 +1,14 @@
 -- What a statement uses, piece by piece, each use with its place in the source: names, indices,
 -- sets that are controlled, operations, words. A piece has the place that the source gives it, or
 -- else that of the smallest piece around it.
-use Rattle.std.specs.Prelude.{ℕ, Bool, true, false, List, [], ◌∷◌, ◌++◌, map, flat_map, Option, Some, None}
+use Rattle.std.specs.Prelude.{ℕ, true, false, List, [], ◌∷◌, ◌++◌, Option, Some, None}
 use Rattle.gms_labels.specs.declared.place.Place.{Place}
 use Rattle.gms_ast.specs.declared.expression.Suffix.{Suffix}
 use Rattle.gms_ast.specs.declared.expression.FoldOp.{FoldOp}
 use Rattle.gms_ast.specs.declared.expression.Function.{Function}
 use Rattle.gms_ast.specs.declared.declaration.DeclKind.{DeclKind}
 use Rattle.gms_ast.specs.declared.program.Setting.{Setting}
-use Rattle.gms_ast.specs.Trees.{Mark, plain, placed, signed, related, chosen, Tree, number, plus_infinity, not_available, yes, no, reference, place_in_set, size_of_set, call, fold_over, negated, sum, product, power, relation, not_so, all_of, one_of, guarded, Parts, no_part, part, Indices, no_index, label, set, lagged, Control, over, over_where}
+use Rattle.gms_ast.specs.Trees.{Mark, placed, signed, Tree, number, plus_infinity, not_available, yes, no, reference, place_in_set, size_of_set, call, fold_over, negated, sum, product, power, relation, not_so, all_of, one_of, guarded, Parts, no_part, part, Indices, no_index, label, set, lagged, Control, over, over_where}
 use Rattle.gms_set.specs.declared.fault.SetError.{SetError}
 use Rattle.gms_check.specs.declared.contexts.Context.{Context}
 use Rattle.gms_check.specs.Contexts.{as_number, as_condition, as_part, as_guarded, as_inner, as_denied}
@@ -91,7 +91,8 @@ place_by_mark (signed at mark) around = at
 place_by_mark mark around = around
 
 -- the operation before an operand of a product or a power, by the operand's mark: in a product a
--- division if the operand divides, otherwise a multiplication; in a power an exponentiation
+-- division if the operand divides (`true`), otherwise a multiplication; in a power an
+-- exponentiation
 abbrev pub operation_of : Mark → Operation
 operation_of (signed at true) = divides
 operation_of (signed at false) = multiplies
@@ -110,14 +111,16 @@ module _ {F : Type 0} where
   index_sets (set name rest) = name ∷ index_sets rest
   index_sets (lagged name op at amount rest) = name ∷ index_sets rest
 
-  -- the operations before these operands of a product or a power, one for each, where `earlier` are
-  -- the operands that precede them
+  -- the operations before these operands of a product or a power in a context, one for each, where
+  -- `earlier` are the operands that precede them, and `around` is the place of an operand whose
+  -- mark has none
   abbrev pub later_steps : Context → Place → List (Tree F) → Parts F → Uses F
   later_steps context around earlier no_part = []
   later_steps context around earlier (part mark tree rest) =
       (place_by_mark mark around, stepping context (operation_of mark) earlier tree) ∷ later_steps context around (earlier ++ tree ∷ []) rest
 
-  -- the operations of a product or a power: one before each operand except the first
+  -- the operations of a product or a power in a context: one before each operand except the first,
+  -- where `around` is the place of an operand whose mark has none
   abbrev pub steps : Context → Place → Parts F → Uses F
   steps context around no_part = []
   steps context around (part mark tree rest) = later_steps context around (tree ∷ []) rest
@@ -150,20 +153,23 @@ abbrev mutual
   uses context around controlled (guarded operand guards) =
       uses (as_guarded context) around controlled operand ++ part_uses as_condition around controlled guards
 
-  -- the uses of the operands or arguments of a node, in order
+  -- the uses of the operands or arguments of a node in a context, in order, where `around` is the
+  -- place of an operand whose mark has none, and the sets `controlled` are controlled
   pub part_uses : {F : Type 0} → Context → Place → List ℕ → Parts F → Uses F
   part_uses context around controlled no_part = []
   part_uses context around controlled (part mark tree rest) =
       uses context (place_by_mark mark around) controlled tree ++ part_uses context around controlled rest
 
-  -- the uses of the amounts of lags among indices, in order
+  -- the uses in the amounts of lags among indices, in order, where the sets `controlled` are
+  -- controlled
   pub amount_uses : {F : Type 0} → List ℕ → Indices F → Uses F
   amount_uses controlled no_index = []
   amount_uses controlled (label n rest) = amount_uses controlled rest
   amount_uses controlled (set name rest) = amount_uses controlled rest
   amount_uses controlled (lagged name op at amount rest) = uses as_number at controlled amount ++ amount_uses controlled rest
 
-  -- the uses in a control: one of its sets, and those in its condition, where these sets are
+  -- the uses in a control at the place `at`, where the sets `controlled` are controlled before: one
+  -- use of all its sets together, and those in its condition, where the sets of the control are
   -- controlled too
   pub control_uses : {F : Type 0} → Place → List ℕ → Control F → Uses F
   control_uses at controlled (over sets) = (at, controlling controlled sets) ∷ []
@@ -171,7 +177,8 @@ abbrev mutual
       (at, controlling controlled sets) ∷ uses as_condition at (controlled ++ sets) condition
 
 module _ {F : Type 0} where
-  -- the uses of the amounts of lags on the left of an assignment or a definition
+  -- the uses of the amounts of lags on the left of an assignment or a definition, where the sets
+  -- `controlled` are controlled: for each amount one use of the amount itself, and those in it
   abbrev pub shift_uses : List ℕ → Indices F → Uses F
   shift_uses controlled no_index = []
   shift_uses controlled (label n rest) = shift_uses controlled rest
@@ -179,7 +186,8 @@ module _ {F : Type 0} where
   shift_uses controlled (lagged name op at amount rest) =
       (at, shifting amount) ∷ (uses as_number at controlled amount ++ shift_uses controlled rest)
 
-  -- the uses of a condition; none if there is no condition
+  -- the uses of a condition in a statement at the place `at`, where the sets `controlled` are
+  -- controlled; none if there is no condition
   abbrev pub condition_uses : Place → List ℕ → Option (Tree F) → Uses F
   condition_uses at controlled None = []
   condition_uses at controlled (Some condition) = uses as_condition at controlled condition

@@ -107,11 +107,12 @@ fn put_last(errors: &mut Vec<CompileError>, error: Option<CompileError>) -> Resu
 pub struct Checker<'s, F: ExactField> {
     /// The allocator of all that the check stores.
     pub alloc: Global,
-    /// The names of the solvers, which `option lp` may name.
+    /// The names of the solvers: the words that `option lp` admits.
     pub solvers: &'s [Sequence<u8>],
     /// What the statements before the one in check declare and define, with their data.
     pub known: Known<F>,
-    /// The sets that folds, loops and left sides control at the current expression.
+    /// The sets that folds (`sum` and others), loops and left sides control at the current
+    /// expression.
     pub controlled: Controlled,
     /// The first error so far of the statement in check; `None` if it has none so far.
     pub first: Option<CompileError>,
@@ -165,8 +166,8 @@ impl<'s, F: ExactField> Checker<'s, F> {
         first
     }
 
-    /// Makes the error `before` the statement's first error, unless the first error so far comes
-    /// before that error. If `before` is `None`, nothing changes.
+    /// The error `before` becomes the statement's first error, unless the first error so far comes
+    /// before that one. If `before` is `None`, nothing changes.
     pub fn merge(&mut self, before: Option<CompileError>)
         ensures { seen self.new ≡ record (seen self.old) { first = sooner before (seen self.old).first } }
     {

@@ -10,7 +10,7 @@ use gms_store::SymbolKind;
 #[derive(Clone, Copy, Debug, PartialEq, Eq)]
 pub struct Context {
     /// Whether operands that have a number may occur: literals, parameters, attributes, functions,
-    /// sums and the like, relations, `and` and `or`.
+    /// `ord`, `card`, `sum` and the other folds, relations, `and`, `or` and `xor`.
     pub numbers: bool,
     /// Whether a variable without suffix may occur.
     pub variables: bool,

@@ -28,8 +28,10 @@ use gq_field::ExactField;
 use std::alloc::AllocError;
 
 impl<'s, F: ExactField> Checker<'s, F> {
-    /// Checks a declaration, at the place `at`, of these items, all of this kind, and declares
-    /// their names. If the statement has no error, the names get their data.
+    /// Checks a declaration of these items, all of this kind, and declares their names. It checks
+    /// that the kind is none of discrete variables, with the error at the place `at`, and then each
+    /// name in order, with its domain and its data. If the statement has no error, the names get
+    /// their data.
     pub fn declaration(
         &mut self,
         at: Place,

@@ -5,8 +5,8 @@ ghost use Rattle.gms_check.specs.Errors.{comes_first, earlier, error_code, error
 use gms_labels::Place;
 use thiserror::Error;
 
-/// A kind of compile error. The example of each kind is a statement that has this error after `set
-/// i /a,b/, s(i); parameter p(i); variables x, z; equation e;`.
+/// A kind of compile error. The examples in the comments of the kinds have the error of the kind
+/// after `set i /a,b/, s(i); parameter p(i); variables x, z; equation e;`.
 #[derive(Clone, Copy, Debug, Error)]
 pub enum ErrorKind {
     /// A name that no statement before declares, as `q = 1;`, or an option word that is no option,

@@ -18,7 +18,7 @@ use gms_labels::Place;
 use gq_field::ExactField;
 use std::alloc::AllocError;
 
-/// An operation between two operands.
+/// A multiplication, a division or a power, named by what its right operand does.
 #[derive(Clone, Copy, Debug, PartialEq, Eq)]
 pub enum Operation {
     /// The right operand multiplies.
@@ -196,8 +196,9 @@ impl<'s, F: ExactField> Checker<'s, F> {
         Ok(variable)
     }
 
-    /// Checks the sets of a fold or a loop at the place `at`, and the condition on them, if any.
-    /// The sets are controlled in the condition, and stay controlled.
+    /// Checks the sets of a fold, such as `sum`, or a loop at the place `at`, as `control_sets`
+    /// does, and the condition on them, if any. The sets are controlled in the condition, and stay
+    /// controlled.
     #[cycle(expression)]
     pub fn control(&mut self, control: &Control<F>, at: Place) -> Result<(), AllocError>
         ensures { OnOk result (seen self.new

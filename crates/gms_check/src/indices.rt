@@ -17,7 +17,8 @@ use gms_scope::Known;
 use gq_field::ExactField;
 use std::alloc::{AllocError, Global};
 
-/// The most sets that a fold or a loop may control, and the most indices that a reference may have.
+/// The most sets that a fold, such as `sum`, or a loop may control, and the most indices that a
+/// reference may have.
 pub const MOST: usize = 10;
 
 /// Whether a number of indices, `count`, is other than `expected` or over 10.
@@ -27,7 +28,8 @@ pub fn is_wrong_count(expected: usize, count: usize) -> bool
     count != expected || count > MOST
 }
 
-/// The sets among indices, in order, by the numbers of their names. The error is out of memory.
+/// The sets among indices, with a lag or without, in the order of the indices and with repetitions,
+/// by the numbers of their names. The error is out of memory.
 pub fn index_sets<F>(alloc: Global, indices: &[Index<F>]) -> Result<Vec<u32>, AllocError>
     ensures { IfOk result (λ sets. sets.items ≡ index_sets (index_list indices.now)) }
 {
@@ -40,8 +42,8 @@ pub fn index_sets<F>(alloc: Global, indices: &[Index<F>]) -> Result<Vec<u32>, Al
     Ok(sets)
 }
 
-/// The sets among indices that have a lag, in order, by the numbers of their names. The error is
-/// out of memory.
+/// The sets among indices that have a lag, in the order of the indices and with repetitions, by the
+/// numbers of their names. The error is out of memory.
 pub fn lagged_sets<F>(alloc: Global, indices: &[Index<F>]) -> Result<Vec<u32>, AllocError>
     ensures { IfOk result (λ sets. sets.items ≡ lagged_sets (index_list indices.now)) }
 {
@@ -80,7 +82,9 @@ pub fn has_wrong_set<F: ExactField>(known: &Known<F>, names: &[u32]) -> bool
     false
 }
 
-/// Whether at least one of these sets is not ordered.
+/// Whether at least one of these sets is not ordered. A set is ordered if it is one-dimensional, no
+/// statement of the program assigns it, and its labels are given in the order in which labels first
+/// occur in the program. An alias is ordered if its set is.
 pub fn has_unordered<F: ExactField>(known: &Known<F>, sets: &[u32]) -> bool
     ensures { result ≡ list_any (λ set. not (is_known_ordered known.now set)) sets.now }
 {
@@ -105,9 +109,10 @@ pub fn has_uncontrolled(controlled: &Controlled, sets: &[u32]) -> bool
 }
 
 /// Whether at least one set among the indices of a reference to `name` does not fit its position. A
-/// set fits where the domain of `name` has `*`. It also fits where the domain has a set that is
-/// declared before `name`, if it is that set or is declared as a subset of that set, directly or
-/// through other sets.
+/// set fits where the domain of `name` has `*`. It also fits where the domain has a one-dimensional
+/// set that is declared before `name`, if it is that set or is declared as a subset of that set,
+/// directly or through other sets. An alias counts as its set. Indices after the last position of
+/// `name` are not checked.
 pub fn has_unfit_set<F: ExactField>(known: &Known<F>, name: u32, indices: &[Index<F>]) -> bool
     ensures { result ≡ have_unfit_set known.now.state (names known.now) (above_of known.now.declared) name
         (positions known.now.state name) (index_list indices.now) }
@@ -124,8 +129,9 @@ pub fn has_unfit_set<F: ExactField>(known: &Known<F>, name: u32, indices: &[Inde
 }
 
 /// Whether at least one label among the indices of a reference to `name` does not fit its position.
-/// A label fits where the domain of `name` has `*`. It also fits where the domain has a set that is
-/// declared before `name`, if that set has the label. The error is out of memory.
+/// A label fits where the domain of `name` has `*`. It also fits where the domain has a
+/// one-dimensional set that is declared before `name`, if that set has the label. Indices after the
+/// last position of `name` are not checked. The error is out of memory.
 pub fn has_unfit_label<F: ExactField>(
     alloc: Global,
     known: &Known<F>,

@@ -71,9 +71,11 @@ pub fn left_laws<F: ExactField>()
 
 /// The state of an accepted program before its first statement acts. A set has the tuples of its
 /// items and no other. A parameter has at each tuple the value of the item that has the tuple, and
-/// 0 if no item has the tuple. A variable has the bounds of its type, an equation has no bounds,
-/// and both have level and marginal 0. A set, a parameter and an equation have the positions of
-/// their declaration. A name that no statement declares has neither positions nor content.
+/// 0 if no item has the tuple. A variable has the bounds of its type, which is free only if each of
+/// its declarations is of free variables. An equation has no bounds. A variable and an equation
+/// have level and marginal 0. A set, a parameter and an equation have the positions of their
+/// declaration. A name that no statement declares has neither positions nor content. In all clauses
+/// except the last, the name is in the program's table of names.
 ///
 /// GAMS User's Guide, "Set Definition"; "Data Entry: Parameters, Scalars and Tables"; "Variables".
 pub fn load_laws<F: ExactField>()

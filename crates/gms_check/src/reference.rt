@@ -20,8 +20,10 @@ use gq_field::ExactField;
 use std::alloc::AllocError;
 
 impl<'s, F: ExactField> Checker<'s, F> {
-    /// Checks a reference in a context, except for the amounts of its lags. The errors are noted at
-    /// the place of the name. The result is whether the reference is to a variable without suffix.
+    /// Checks a reference, except for the amounts of its lags: its name and indices as `named`
+    /// does, that each set among the indices is controlled, and that the context admits the name
+    /// with this suffix. The errors are noted at the place of the name. The result is whether the
+    /// reference is to a variable without suffix.
     pub fn reference(
         &mut self,
         context: Context,
@@ -54,8 +56,10 @@ impl<'s, F: ExactField> Checker<'s, F> {
         }
     }
 
-    /// Checks a name and its indices: the name and the sets among the indices are declared, and the
-    /// indices fit the positions of the name. `occurs` is whether the context admits the name; if
+    /// Checks a name and its indices. The name and the sets among the indices are declared before.
+    /// There are as many indices as the name has positions, at most 10. Each set among the indices
+    /// is one-dimensional, and ordered if it has a lag. Each set or label fits its position
+    /// (`has_unfit_set`, `has_unfit_label`). `occurs` is whether the context admits the name; if
     /// not, this is an error too.
     pub fn named(
         &mut self,
@@ -83,7 +87,8 @@ impl<'s, F: ExactField> Checker<'s, F> {
         Ok(())
     }
 
-    /// Checks the items that a `display` or an `abort` shows.
+    /// Checks the items that a `display` or an `abort` shows: each symbol is declared before, and
+    /// may occur in a condition with its suffix. A text has no error.
     pub fn shows(&mut self, items: &[Show])
         ensures { seen self.new ≡ noted F.value (seen self.old) (flat_map show_uses items.now) }
     {
@@ -92,7 +97,7 @@ impl<'s, F: ExactField> Checker<'s, F> {
         }
     }
 
-    /// Checks a displayed item.
+    /// Checks a displayed item, a symbol or a text. A text has no error.
     fn show(&mut self, item: &Show)
         ensures { seen self.new ≡ noted F.value (seen self.old) (show_uses item.now) }
     {
@@ -101,7 +106,8 @@ impl<'s, F: ExactField> Checker<'s, F> {
         }
     }
 
-    /// Checks a symbol that is displayed.
+    /// Checks a symbol that is displayed: it is declared before, and may occur in a condition with
+    /// this suffix.
     fn symbol(&mut self, named: Named, suffix: Suffix)
         ensures { seen self.new ≡ noted F.value (seen self.old) ((named.at, showing named.name suffix) ∷ []) }
     {

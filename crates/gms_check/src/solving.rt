@@ -19,7 +19,7 @@ use std::alloc::AllocError;
 
 impl<'s, F: ExactField> Checker<'s, F> {
     /// Checks the two names of an alias: exactly one is to be declared before, and that one has to
-    /// be a set.
+    /// be a set or an alias of one.
     pub fn alias(&mut self, first: Named, second: Named)
         ensures { seen self.new
             ≡ noted F.value (seen self.old) ((first.at, first_alias first.name second.name) ∷ (second.at, second_alias first.name second.name) ∷ []) }
@@ -34,8 +34,9 @@ impl<'s, F: ExactField> Checker<'s, F> {
         self.require(second_occurs, ErrorKind::WrongKind, second.at);
     }
 
-    /// Checks a declaration of models, and declares their names. If the statement has no error, the
-    /// models get their equations.
+    /// Checks a declaration of models, and declares their names: each is not declared before, and
+    /// each name in its list is that of an equation. If the statement has no error, the models get
+    /// their equations; else they get none.
     pub fn models(&mut self, models: &[ModelDecl]) -> Result<(), AllocError>
         ensures first { OnOk result ((seen self.new).first ≡
             sooner (seen self.old).first (first_error (model_errors (known_of F.value (seen self.old)) models.now))) }
@@ -103,9 +104,9 @@ impl<'s, F: ExactField> Checker<'s, F> {
         self.known.list(name, equations)
     }
 
-    /// Checks a solve: that its model is a model whose equations are all defined, that `method`,
-    /// the word after `using`, is `lp`, and that its objective is a free variable without
-    /// positions.
+    /// Checks a solve, and notes the first error: its model must be a model whose equations are all
+    /// defined, `method`, the word after `using`, must be `lp`, and its objective must be a free
+    /// variable without indices.
     pub fn solve(&mut self, model: Named, method: &Word, objective: Named)
         ensures { seen self.new
             ≡ noted F.value (seen self.old)

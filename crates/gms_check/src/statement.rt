@@ -19,8 +19,10 @@ use gq_field::ExactField;
 use std::alloc::AllocError;
 
 impl<'s, F: ExactField> Checker<'s, F> {
-    /// Checks a statement, and declares its names. The result is the statement's compile error. If
-    /// this is `None`, the names that the statement declares have their data too.
+    /// Checks a statement, and declares its names. The caller must prove that no error is noted
+    /// before. The result is the statement's first compile error, by place and then by number. If
+    /// this is `None`, the names that the statement declares have their data too. Afterwards no set
+    /// is controlled and no error is noted.
     pub fn statement(&mut self, statement: &Stmt<F>) -> Result<Option<CompileError>, AllocError>
         requires { (seen self.old).first ≡ None }
         ensures error { IfOk result (λ error. error ≡ statement_error (known_of F.value (seen self.old)) statement.now) }

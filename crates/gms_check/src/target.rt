@@ -22,8 +22,10 @@ use gq_field::ExactField;
 use std::alloc::AllocError;
 
 impl<'s, F: ExactField> Checker<'s, F> {
-    /// Checks what an assignment assigns: the name, the suffix and the indices, except for the
-    /// amounts of lags.
+    /// Checks what an assignment assigns, except for the amounts of lags, and notes the first
+    /// error: the name must be that of a set or a parameter without suffix, or of a variable with
+    /// the suffix `lo`, `up`, `fx`, `l` or `m`, and its indices must fit its positions, in number
+    /// and each in its domain (`named`).
     pub fn target(&mut self, target: &Target<F>) -> Result<(), AllocError>
         ensures { OnOk result (seen self.new
             ≡ noted F.value (seen self.old) ((target.now.at, assigning target.now.name target.now.suffix (index_list target.now.indices)) ∷ [])) }
@@ -38,8 +40,9 @@ impl<'s, F: ExactField> Checker<'s, F> {
         Ok(())
     }
 
-    /// Checks the equation that a definition defines, with its indices, and that no statement
-    /// before defines it.
+    /// Checks what a definition defines, and notes the first error: the name must be that of an
+    /// equation that no statement before defines, and its indices must fit its positions, in number
+    /// and each in its domain (`named`).
     pub fn defined_equation(
         &mut self,
         equation: Named,
@@ -55,7 +58,8 @@ impl<'s, F: ExactField> Checker<'s, F> {
         Ok(())
     }
 
-    /// Checks a name that is listed in a model: it has to be that of an equation.
+    /// Checks a name that is listed in a model, and notes an error unless it is that of an
+    /// equation.
     pub fn listed_equation(&mut self, named: Named)
         ensures { seen self.new ≡ noted F.value (seen self.old) ((named.at, listing named.name) ∷ []) }
     {
@@ -75,8 +79,8 @@ impl<'s, F: ExactField> Checker<'s, F> {
         Ok(())
     }
 
-    /// Checks the amounts of lags on the left of an assignment or a definition: each is an integer
-    /// literal or a scalar.
+    /// Checks the amounts of lags on the left of an assignment or a definition, and notes the first
+    /// error: each must be an integer literal or a scalar.
     pub fn left_amounts(&mut self, indices: &[Index<F>]) -> Result<(), AllocError>
         ensures { OnOk result (seen self.new ≡ noted F.value (seen self.old) (shift_uses (seen self.old).controlled (index_list indices.now))) }
     {
@@ -90,7 +94,8 @@ impl<'s, F: ExactField> Checker<'s, F> {
         Ok(())
     }
 
-    /// Checks an amount of a lag on the left: a whole literal or a scalar.
+    /// Checks an amount of a lag on the left, and notes the first error: it must be an integer
+    /// literal or a scalar.
     fn left_amount(&mut self, amount: &Expr<F>, at: Place) -> Result<(), AllocError>
         ensures { OnOk result (seen self.new
             ≡ noted F.value (seen self.old) ((at, shifting (tree_of amount.now)) ∷ uses as_number at (seen self.old).controlled (tree_of amount.now))) }
@@ -131,8 +136,9 @@ impl<'s, F: ExactField> Checker<'s, F> {
         }
     }
 
-    /// Checks the condition of the statement at the place `at`; `None` is no condition and has no
-    /// error.
+    /// Checks each name, operator and other part of the condition of a statement, and notes the
+    /// first error: each must be allowed where it occurs. `at`, the place of the statement, counts
+    /// as the place of an outermost part that has none. `None` is no condition and has no error.
     pub fn condition(&mut self, condition: &Option<Expr<F>>, at: Place) -> Result<(), AllocError>
         ensures { OnOk result (seen self.new
             ≡ noted F.value (seen self.old) (condition_uses at (seen self.old).controlled (option_map tree_of condition.now))) }

@@ -2,11 +2,9 @@
 use Rattle.std.proofs.Common.{◌≡◌, ◌<◌, ℕ, ◌+◌, List, [], ◌∷◌, ◌++◌, length, map, take, get_or, refl, sym, ap, ◌∙◌, append_assoc, Vec}
 use Rattle.std.specs.declared.alloc.Global.{Global}
 use Rattle.std.specs.Prelude.{flat_map, Bool}
-use Rattle.std.specs.List.{fold}
 use Rattle.std.proofs.lemmas.List.{take_more, map-append}
-use Rattle.gms_labels.specs.declared.place.Place.{Place}
 use Rattle.gms_ast.specs.declared.program.Stmt.{Stmt, out-Stmt}
-use Rattle.gms_ast.specs.declared.program.Act.{Act, Loop, fold-Act}
+use Rattle.gms_ast.specs.declared.program.Act.{Loop, fold-Act}
 use Rattle.gms_ast.specs.declared.program.Act.TheFolds.{fold-roll-Act, fold_out-Stmt}
 use Rattle.gms_ast.specs.declared.program.Act.TheVariants.{rolls-Loop}
 use Rattle.gms_ast.specs.declared.expression.Control.{Control}

@@ -1,16 +1,14 @@
 -- What is below what, by names and by places.
 use mathlib.Core.Bool.{or-false}
-use Rattle.std.proofs.Common.{◌≡◌, ◌<◌, ◌≤◌, ℕ, zero, suc, ◌-◌, Bool, true, false, ◌==◌, ◌&&◌, ◌||◌, List, [], ◌∷◌, ◌++◌, length, map, refl, sym, ap, ◌∙◌, arith, eq-eqb, subst, if◌then◌else◌, Option, Some, None}
+use Rattle.std.proofs.Common.{◌≡◌, ◌<◌, ◌≤◌, ℕ, zero, suc, ◌-◌, Bool, true, false, ◌==◌, ◌&&◌, ◌||◌, List, [], ◌∷◌, length, refl, sym, ap, ◌∙◌, arith, eq-eqb, subst, if◌then◌else◌, Option, Some, None}
 use Rattle.std.specs.Prelude.{nat_lt, slice_index_or}
-use Rattle.std.specs.List.{list_any}
-use Rattle.std.proofs.lemmas.Bool.{ltb-true, lt-ltb, eqb-true}
+use Rattle.std.proofs.lemmas.Bool.{lt-ltb, eqb-true}
 use Rattle.std.proofs.lemmas.Bool.Decides.{nat_tests}
-use Rattle.std.proofs.lemmas.List.{length-map}
 use Rattle.gms_scope.specs.declared.order.Node.{Node}
 use Rattle.gms_scope.specs.Below.{bounds, is_below_within, is_met_before, is_some_with}
 use Rattle.gms_scope.specs.Names.{is_index_set}
 use Rattle.gms_store.specs.State.{State, base_of}
-use Rattle.gms_scope.specs.Entries.{DeclarationList, above_of, among, is_entered, names_of_entries}
+use Rattle.gms_scope.specs.Entries.{above_of, among, is_entered, names_of_entries}
 use Rattle.gms_scope.specs.Order.{IsAbove, IsNodeStep, entries_of_nodes, is_under, is_under_within, later, names_of_nodes, node_at, order_of}
 use Rattle.gms_scope.proofs.Ways.{within-same}
 use Rattle.gms_scope.proofs.Orders.{names-length, order-most, order-name}

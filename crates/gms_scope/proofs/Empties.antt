@@ -1,25 +1,23 @@
 -- All data of a name taken out, one tuple after another.
 use Rattle.gms_store.proofs.Views.{zero_is_none as nothing}
-use Rattle.std.proofs.Common.{◌≡◌, ◌≢◌, ◌<◌, ◌≤◌, ℕ, Bool, true, false, not, ◌&&◌, ◌||◌, ◌==◌, List, [], ◌∷◌, ◌++◌, length, refl, sym, ap, ◌∙◌, subst, arith, cond, Option, Some, None, unwrap_or, eq-eqb, if◌then◌else◌, pos}
-use Rattle.std.specs.Prelude.{nat_lt, slice_get, slice_index_or, filter}
-use Rattle.std.specs.List.{fold, list_any}
+use Rattle.std.proofs.Common.{◌≡◌, ◌≢◌, ◌<◌, ◌≤◌, ℕ, Bool, true, false, not, ◌||◌, ◌==◌, List, [], ◌∷◌, length, refl, sym, ap, ◌∙◌, subst, arith, cond, Some, None, eq-eqb}
+use Rattle.std.specs.Prelude.{nat_lt, slice_index_or}
+use Rattle.std.specs.List.{fold}
 use Rattle.std.specs.Map.{keys_of}
-use Rattle.std.specs.Ordering.{eq_by_cmp, is_eq}
+use Rattle.std.specs.Ordering.{eq_by_cmp}
 use Rattle.std.specs.FinMap as finite
 use Rattle.std.proofs.Math.ListN.{set}
 use Rattle.std.proofs.lemmas.Bool.{ltb-true, eqb-true, or_right}
 use Rattle.std.proofs.lemmas.Bool.Decides.{nat_tests}
-use Rattle.std.proofs.lemmas.Cmp.{nat_list_eq_equiv, tied_itself}
-use Rattle.gq_number.specs.Number.{whole}
-use Rattle.gq_number.proofs.Compares.{number_cmp_total}
-use Rattle.std.proofs.lemmas.List.{get_or-set_same, get_or-set_other, get_or_past, set-get_or, set-set, set_past}
+use Rattle.std.proofs.lemmas.Cmp.{nat_list_eq_equiv}
+use Rattle.std.proofs.lemmas.List.{get_or-set_same, get_or-set_other, get_or_past, set-get_or, set-set}
 use Rattle.std.proofs.lemmas.Option.{unwrap_or-slice_get}
 use Rattle.gq_extended.specs.Extended.{Extended}
 use Rattle.gms_tuple.specs.TupleOrder.{same_tuple, tuple_cmp}
 use Rattle.gms_tuple.specs.OrderLaws.{tuple_cmp-total}
 use Rattle.gms_tuple.specs.TupleSet.{has, removed}
 use Rattle.gms_tuple.proofs.Ordered.{same_tuple_refl, tuple_cmp-Equal}
-use Rattle.gms_store.specs.State.{State, Entries, Content, undeclared, alias_of, set_of, parameter_of, variable_of, equation_of, model_with, Symbol, no_symbol, after_membership, after_value, base_of, alias_target, given_in, given_of, if_fits, is_given, symbol_at, symbol_of, with_content, with_membership, with_symbol, with_value, zero}
+use Rattle.gms_store.specs.State.{State, Entries, Content, undeclared, alias_of, set_of, parameter_of, variable_of, equation_of, model_with, Symbol, no_symbol, after_membership, after_value, base_of, alias_target, given_in, given_of, if_fits, symbol_at, symbol_of, with_content, with_membership, with_symbol, with_value, zero}
 use Rattle.gms_scope.specs.Data.{empty_content, with_no_data}
 
 abbrev pub without_tuple : ℕ → State → List ℕ → State

@@ -1,5 +1,5 @@
 -- Models, their equations, and how many of these are counted as defined.
-use Rattle.std.proofs.Common.{◌≡◌, ◌≢◌, ◌<◌, ◌≤◌, ℕ, zero, suc, ◌+◌, ◌-◌, Bool, true, false, not, ◌==◌, ◌||◌, List, [], ◌∷◌, ◌++◌, length, map, take, refl, sym, ap, ◌∙◌, arith, subst, eq-eqb, if◌then◌else◌}
+use Rattle.std.proofs.Common.{◌≡◌, ◌≢◌, ◌<◌, ◌≤◌, ℕ, zero, suc, Bool, true, false, not, ◌==◌, List, [], ◌∷◌, ◌++◌, length, take, refl, sym, ap, ◌∙◌, arith, subst, eq-eqb, if◌then◌else◌}
 use Rattle.std.specs.Prelude.{nat_lt, slice_index_or}
 use Rattle.std.specs.List.{list_any}
 use Rattle.std.proofs.Math.ListN.{set}
@@ -12,7 +12,6 @@ use Rattle.gms_scope.specs.declared.model.Model.{Model}
 use Rattle.gms_scope.specs.Facts.{declared_equations, is_missing}
 use Rattle.gms_scope.specs.Models.{AreAllThere, AreCounted, AreEquationsDeclared, IsCountedModel, equations_within, model_names, models_within, recounted}
 use Rattle.gms_scope.specs.Order.{later, order_of}
-use Rattle.gms_scope.proofs.Orders.{order-most}
 
 -- ---- one equation more
 

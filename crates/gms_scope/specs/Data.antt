@@ -1,12 +1,12 @@
 -- Data that are written to a name or removed, and the order of labels (GAMS User's Guide, "Data
 -- Entry: Parameters, Scalars and Tables"; "Sets as Sequences: Ordered Sets").
-use Rattle.std.specs.Prelude.{ℕ, ◌+◌, Bool, true, false, ◌&&◌, nat_lt, List, [], ◌∷◌, fold, flat_map, Option, Some, None, if◌then◌else◌}
+use Rattle.std.specs.Prelude.{ℕ, ◌+◌, Bool, true, ◌&&◌, nat_lt, List, [], ◌∷◌, fold, flat_map, Option, Some, None, if◌then◌else◌}
 use Rattle.std.specs.FinMap as finite
 use Rattle.gq_number.specs.Number.{Number}
 use Rattle.gq_extended.specs.Meaning.{extended}
 use Rattle.gq_extended.specs.declared.extended.Ext.{Ext}
 use Rattle.gms_ast.specs.declared.declaration.Item.{Item}
-use Rattle.gms_store.specs.State.{State, Content, undeclared, alias_of, set_of, parameter_of, variable_of, equation_of, model_with, symbol_of, with_symbol, with_content, after_membership, after_value}
+use Rattle.gms_store.specs.State.{State, Content, set_of, parameter_of, symbol_of, with_symbol, with_content, after_membership, after_value}
 
 -- the content without data: a set without members, or a parameter without values; any other content
 -- is unchanged
@@ -45,6 +45,6 @@ module _ {F : Type 0} (value : F → Number) where
   with_datum name state (tuple, None) = after_membership state name tuple true
   with_datum name state (tuple, Some x) = after_value state name tuple (extended value x)
 
-  -- the state after the data of a name, one by one
+  -- the state after the data `given` were written to `name`, one by one, in order
   abbrev pub given_to : ℕ → State → List (List ℕ × Option (Ext F)) → State
   given_to name state given = fold (with_datum name) state given

@@ -4,7 +4,7 @@
 use Rattle.std.specs.Prelude.{ℕ, List, [], ◌∷◌, map, flat_map}
 use Rattle.gms_ast.specs.declared.program.Program.{Program}
 use Rattle.gms_ast.specs.declared.program.Stmt.{Stmt}
-use Rattle.gms_ast.specs.declared.program.Act.TheOpen.{Act-F, Stmt-F}
+use Rattle.gms_ast.specs.declared.program.Act.TheOpen.{Act-F}
 use Rattle.gms_ast.specs.declared.program.Act.TheFolds.{fold-Stmt}
 use Rattle.gms_store.specs.State.{base_of}
 use Rattle.gms_store.specs.Declarations.{declared_state}

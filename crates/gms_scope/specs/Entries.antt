@@ -1,10 +1,10 @@
 -- The names that are declared, in order, each with its domain set (GAMS User's Guide, "Set
 -- Definition", domain checking).
-use Rattle.std.specs.Prelude.{ℕ, Bool, true, false, ◌==◌, nat_lt, List, [], ◌∷◌, map, Option, Some, None, if◌then◌else◌}
+use Rattle.std.specs.Prelude.{ℕ, Bool, ◌==◌, nat_lt, List, [], ◌∷◌, map, Option, Some, None, if◌then◌else◌}
 use Rattle.std.specs.List.{list_any}
 
--- the declared names in the order of their declarations, one entry for each declaration, with the
--- domain set of a one-dimensional set, and None for any other name
+-- the declared names in the order of their declarations, one entry for each declaration: the name,
+-- and for a one-dimensional set its domain set or None; None for any other name
 abbrev pub DeclarationList : Type 0
 DeclarationList = List (ℕ × Option ℕ)
 
@@ -26,8 +26,8 @@ abbrev pub among : DeclarationList → Option ℕ → Option ℕ
 among entries None = None
 among entries (Some name) = if is_entered entries name then Some name else None
 
--- what one declaration of `name` appends to the list: the name with its domain set `above`, which
--- counts only if it occurs in the list; nothing if `name` is no number below `names`, the number of
--- names of the program
+-- what one declaration of `name` appends to the list: the name with its domain set `above`, or with
+-- None if the list does not have this set; nothing if `name` is no number below `names`, the number
+-- of names of the program
 abbrev pub entry : ℕ → DeclarationList → ℕ → Option ℕ → DeclarationList
 entry names entries name above = if nat_lt name names then (name, among entries above) ∷ [] else []

@@ -1,6 +1,6 @@
 -- What is known before a statement, and what each statement adds to it (GAMS User's Guide, "Set
 -- Definition"; "Dynamic Sets"; "Equations"; "Model and Solve Statements").
-use Rattle.std.specs.Prelude.{◌≡◌, ℕ, Bool, true, false, not, ◌&&◌, ◌==◌, nat_lt, List, [], ◌∷◌, ◌++◌, length, fold, replicate, slice_index_or, slice_set, Option, Some, None, if◌then◌else◌, refl}
+use Rattle.std.specs.Prelude.{ℕ, Bool, true, false, not, ◌&&◌, ◌==◌, nat_lt, List, [], ◌∷◌, ◌++◌, length, fold, replicate, slice_index_or, slice_set, Option, None, if◌then◌else◌, refl}
 use Rattle.std.specs.List.{list_any}
 use Rattle.std.specs.Coded.{Coded, code_by, coded×, coded_ℕ, coded_bool, coded_list, coded_option}
 use Rattle.gq_number.specs.Number.{Number}
@@ -56,14 +56,14 @@ with_marks marks names = fold (λ marks name. slice_set marks name true) marks n
 abbrev pub is_known_dynamic : Facts → ℕ → Bool
 is_known_dynamic facts name = marked facts.dynamic (base_of facts.state name)
 
--- whether a set is ordered: one-dimensional, not dynamic, and with its labels given in the order in
--- which labels first occur in the program
+-- whether a set, or the set of an alias, is ordered: one-dimensional, not dynamic, and with its
+-- labels given in the order in which labels first occur in the program
 abbrev pub is_known_ordered : Facts → ℕ → Bool
 is_known_ordered facts name =
     is_index_set facts.state name && (not (is_known_dynamic facts name) && not (marked facts.unordered (base_of facts.state name)))
 
--- the equations of a model, as its first entry in the list has them; none if the list does not have
--- it
+-- the equations of a model, as its first entry in the list has them; none if the list has no entry
+-- of the model
 abbrev pub declared_equations : List (ℕ × List ℕ) → ℕ → List ℕ
 declared_equations [] name = []
 declared_equations (model ∷ models) name = if model.0 == name then model.1 else declared_equations models name
@@ -83,31 +83,33 @@ has_undefined facts name =
 
 -- ---- changes
 
--- what the declaration of a name appends to the list of declarations, where `above` is its domain
--- set, if any
+-- what one declaration of a name appends to the list of declarations: the name with its domain set
+-- `above`, or with None if `above` is None or is not in the list; nothing if the name is no number
+-- below the number of names, which is the length of `defined`
 abbrev pub declared_entry : Facts → ℕ → Option ℕ → DeclarationList
 declared_entry facts name above = entry (length facts.defined) facts.declared name above
 
--- the domain set of a name that was just declared, if the name was new (true); None for a later
--- declaration of a name
+-- the domain set of a name right after its declaration, if the name was new (true): that of a
+-- one-dimensional set, with an alias replaced by its set, and None for any other name; None after a
+-- later declaration of the name
 abbrev pub above_new : Bool → State → ℕ → Option ℕ
 above_new true state name = base_above state name
 above_new false state name = None
 
--- the equation that a declaration of this kind adds to the declared ones: the name, if the kind is
--- Equation and the state after the declaration has the name as an equation
+-- the equation that a declaration of this kind adds to the list of declared ones: the name, if the
+-- kind is Equation and the state after the declaration has the name as an equation; otherwise none
 abbrev pub equation_in : DeclKind → State → ℕ → List ℕ
 equation_in Equation state name = if is_equation (declared_kind state name) then name ∷ [] else []
 equation_in kind state name = []
 
--- what is known after a name was declared, by a declaration of this kind with this written domain,
--- without its data
+-- what is known after a name was declared, by a declaration of this kind with this written domain;
+-- the data that the declaration gives are not yet written
 abbrev pub with_declared : DeclKind → List (Option ℕ) → Facts → ℕ → Facts
 with_declared kind domain facts name =
     record facts { state = declare kind domain facts.state name; declared = facts.declared ++ declared_entry facts name (above_new (has_no_declaration facts.state name) (declare kind domain facts.state name) name); equations = facts.equations ++ equation_in kind (declare kind domain facts.state name) name }
 
--- the list of declarations after those of `first` and then `second` were appended, without domain
--- sets
+-- the list of declarations after the declaration of `first` and then that of `second` were
+-- appended, each without a domain set
 abbrev pub with_two : Facts → ℕ → ℕ → DeclarationList
 with_two facts first second =
     (facts.declared ++ declared_entry facts first None) ++ declared_entry facts second None
@@ -117,7 +119,8 @@ abbrev pub with_alias : Facts → ℕ → ℕ → Facts
 with_alias facts first second =
     record facts { state = declare_alias facts.state first second; declared = with_two facts first second }
 
--- what is known after a name was declared as a model, whose equations follow by `with_model`
+-- what is known after a name was declared as a model; `with_model` then adds the equations of the
+-- model
 abbrev pub with_model_name : Facts → ℕ → Facts
 with_model_name facts name =
     record facts { state = declare_model facts.state name; declared = facts.declared ++ declared_entry facts name None }
@@ -127,12 +130,13 @@ with_model_name facts name =
 abbrev pub model_entry : ℕ → ℕ → List ℕ → List (ℕ × List ℕ)
 model_entry names name equations = if nat_lt name names then (name, equations) ∷ [] else []
 
--- what is known after a model of these equations was added to the list of models
+-- what is known after the model `name` with these equations was added to the list of models
 abbrev pub with_model : Facts → ℕ → List ℕ → Facts
 with_model facts name equations =
     record facts { models = facts.models ++ model_entry (length facts.defined) name equations }
 
--- what is known after the data `given` were written to a name
+-- what is known after the data `given` were written to a name, in order: a tuple without a value
+-- is inserted into the set; with one, the parameter gets the value at the tuple
 abbrev pub facts_with_data : {F : Type 0} → (F → Number) → Facts → ℕ → List (List ℕ × Option (Ext F)) → Facts
 facts_with_data value facts name given = record facts { state = given_to value name facts.state given }
 

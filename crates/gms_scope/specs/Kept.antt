@@ -5,9 +5,9 @@ use Rattle.gms_scope.specs.declared.model.Models.{Models}
 use Rattle.gms_scope.specs.Order.{IsOrder}
 use Rattle.gms_scope.specs.Models.{AreModelsCounted, AreModelsListed}
 
--- The order of names, the marks of defined equations and the models are for the same number of
--- names. The order and the models satisfy their invariants, and the first equations of each model
--- that it counts as defined are marked so.
+-- The order of names (the list of their declarations), the marks of defined equations and the
+-- models are for the same number of names. The order and the models satisfy their invariants. Each
+-- model stores how many of its first equations are known to be defined; these exist and are marked.
 pub record IsConsistent (order : Order) (defined : List Bool) (models : Models) : Type 0 where
   pub ordered : IsOrder order
   pub listed : AreModelsListed models

@@ -1,5 +1,5 @@
 -- How the models that are declared are stored.
-use Rattle.std.specs.Prelude.{◌≡◌, ◌<◌, ◌≤◌, ℕ, suc, zero, Bool, true, false, ◌==◌, List, [], ◌∷◌, length, map, take, slice_index_or, if◌then◌else◌}
+use Rattle.std.specs.Prelude.{◌≡◌, ◌≤◌, ℕ, Bool, false, List, [], ◌∷◌, length, map, take, slice_index_or}
 use Rattle.std.specs.List.{list_any}
 use Rattle.gms_scope.specs.declared.model.Equations.{Equations}
 use Rattle.gms_scope.specs.declared.model.Equations.TheVariants.{All, Listed}
@@ -40,24 +40,27 @@ abbrev pub AreEquationsDeclared : List ℕ → Equations → Type 0
 AreEquationsDeclared declared (All count) = count ≤ length declared
 AreEquationsDeclared declared (Listed equations) = Unit {0}
 
--- no model of the first `count` declared equations has more equations than are declared
+-- `AreEquationsDeclared` holds for each of these models: none that consists of the first declared
+-- equations has more equations than are declared
 abbrev pub AreAllThere : List ℕ → List Model → Type 0
 AreAllThere declared [] = Unit {0}
 AreAllThere declared (model ∷ models) = AreEquationsDeclared declared model.equations × AreAllThere declared models
 
--- `places` has for each name the index of its first model in the list of models, plus 1, or 0 if
--- there is none; and no model of the first declared equations has more than are declared.
+-- `places` has for each name 1 plus the index of the first model of this name in the list of
+-- models, or 0 if there is none; and no model of the first declared equations has more than are
+-- declared.
 pub record AreModelsListed (models : Models) : Type 0 where
   pub places : (name : ℕ) → slice_index_or models.places.items name 0 ≡ order_of (model_names models.models.items) name
   pub there : AreAllThere models.equations.items models.models.items
 
--- The first `model.defined` equations of a model exist, and are marked in `defined`.
+-- The first `model.defined` equations of a model exist, and are marked in `defined`; `declared` are
+-- all declared equations, in order.
 pub record IsCountedModel (defined : List Bool) (declared : List ℕ) (model : Model) : Type 0 where
   pub most : model.defined ≤ length (equations_within declared model.equations)
   pub known : list_any (is_missing defined) (take model.defined (equations_within declared model.equations)) ≡ false
 
 -- each of these models counts its defined equations right: as many of its first equations as it
--- counts exist, and are marked in `defined`
+-- counts exist, and are marked in `defined`; `declared` are all declared equations, in order
 abbrev pub AreCounted : List Bool → List ℕ → List Model → Type 0
 AreCounted defined declared [] = Unit {0}
 AreCounted defined declared (model ∷ models) =

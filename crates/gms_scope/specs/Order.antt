@@ -1,19 +1,19 @@
 -- The names that are declared, each a node at its index in the order of declarations, with the path
 -- from each to the sets that it is below.
-use Rattle.std.specs.Prelude.{◌≡◌, ◌<◌, ◌≤◌, ℕ, zero, suc, Bool, true, false, ◌==◌, ◌&&◌, ◌||◌, nat_lt, List, [], ◌∷◌, ◌++◌, length, map, Option, Some, None, Vec, slice_index_or, if◌then◌else◌}
+use Rattle.std.specs.Prelude.{◌≡◌, ◌<◌, ◌≤◌, ℕ, zero, suc, Bool, true, false, ◌==◌, ◌&&◌, ◌||◌, nat_lt, List, [], ◌∷◌, length, map, Option, Some, None, slice_index_or, if◌then◌else◌}
 use Rattle.gms_scope.specs.declared.order.Node.{Node}
 use Rattle.gms_scope.specs.Entries.{DeclarationList}
 use Rattle.gms_scope.specs.declared.order.Order.{Order}
 
--- the names of nodes, in order
+-- the names of nodes, in order; a node is one declaration of a name
 abbrev pub names_of_nodes : List Node → List ℕ
 names_of_nodes nodes = map (λ (node : Node). node.name) nodes
 
--- the view of a node: its name, with its domain set, if any
+-- the view of a node, one declaration of a name: the name, with its domain set (`below`), if any
 abbrev pub entry_of_node : Node → ℕ × Option ℕ
 entry_of_node node = (node.name, node.below)
 
--- the views of nodes: a list of declarations
+-- the list of declarations that nodes give: of each its name, with its domain set, if any
 abbrev pub entries_of_nodes : List Node → DeclarationList
 entries_of_nodes nodes = map entry_of_node nodes
 
@@ -28,24 +28,27 @@ abbrev pub order_of : List ℕ → ℕ → ℕ
 order_of [] name = 0
 order_of (first ∷ names) name = if first == name then 1 else later (order_of names name)
 
--- the node at the index `place`, from 0; past the last one a node that is below nothing
+-- the node at the index `place`, from 0; past the last one a node of name 0 without a domain set:
+-- no set is above it (`depth`), and its indices of nodes above it are `place` itself
 abbrev pub node_at : List Node → ℕ → Node
 node_at nodes place = slice_index_or nodes place (record { name = 0; below = None; depth = 0; above = place; far = place })
 
 -- whether the node at the index `other` is that at `place`, or is reached from it by at most `n`
--- moves, each to the node directly above, at an earlier index
+-- moves, each from a node to that at its `above`, the first declaration of its domain set, at an
+-- earlier index
 abbrev pub is_under_within : ℕ → List Node → ℕ → ℕ → Bool
 is_under_within zero nodes place other = place == other
 is_under_within (suc n) nodes place other =
     (place == other) || (nat_lt (node_at nodes place).above place && is_under_within n nodes (node_at nodes place).above other)
 
--- whether the node at the index `other` is that at `place`, or is reached from it by moves, each to
--- the node directly above, at an earlier index
+-- whether the node at the index `other` is that at `place`, or is reached from it by moves, each
+-- from a node to that at its `above`, the first declaration of its domain set, at an earlier index
 abbrev pub is_under : List Node → ℕ → ℕ → Bool
 is_under nodes place other = is_under_within place nodes place other
 
--- `above` is the index of the node directly above that at `place`: the first node of its domain set
--- `name`, at an earlier index; or `place` itself if it has none
+-- `above` is the index of the node directly above that at `place`, where `names` are the names of
+-- the nodes, in order: the first node of its domain set `name`, at an earlier index; or `place`
+-- itself if it has no domain set
 abbrev pub IsAbove : List ℕ → Option ℕ → ℕ → ℕ → Type 0
 IsAbove names None place above = above ≡ place
 IsAbove names (Some name) place above = (order_of names name ≡ suc above) × (above < place)
@@ -59,8 +62,8 @@ pub record IsNodeStep (nodes : List Node) (place : ℕ) (node : Node) : Type 0 w
   pub far : node.far ≤ node.above
   pub under : is_under nodes node.above node.far ≡ true
 
--- `first` has for each name the position of its first node, from 1, or 0 if there is none; and the
--- indices that each node stores of nodes above it are right (`IsNodeStep`).
+-- `first` has for each name the position, from 1, of its first declaration (a node), or 0 if there
+-- is none; and the indices that each node stores of nodes above it are right (`IsNodeStep`).
 pub record IsOrder (order : Order) : Type 0 where
   pub places : (name : ℕ) → slice_index_or order.first.items name 0 ≡ order_of (names_of_nodes order.nodes.items) name
   pub steps : (place : ℕ) → place < length order.nodes.items → IsNodeStep order.nodes.items place (node_at order.nodes.items place)

@@ -13,13 +13,14 @@ use gq_extended::Ext;
 use gq_field::ExactField;
 use std::alloc::{AllocError, Global};
 
-/// Tuples with their values, in the order of the data. The value is `None` for an element of a set.
+/// Tuples with their values, in the order in which the data of a name give them. The value is
+/// `None` for an element of a set.
 pub type Data<F> = Vec<(Tuple, Option<Ext<F>>)>;
 
-/// The set at each position of a name that is declared as `kind` with the written domain `domain`,
-/// by the number of its name; `None` at a position that admits any label. A set without a written
-/// domain has one position, which admits any label (GAMS User's Guide, "Set Definition"). The error
-/// is out of memory.
+/// The set at each position of a name that is declared as `kind` with the written domain `domain`.
+/// Each set is given by its number; `None` at a position that admits any label. A set without a
+/// written domain has one position, which admits any label (GAMS User's Guide, "Set Definition").
+/// The error is out of memory.
 pub fn positions(
     alloc: Global,
     kind: DeclKind,
@@ -101,8 +102,9 @@ fn given_tuples<F: ExactField>(
     Ok(tuples)
 }
 
-/// Whether the labels of items, in the order in which they are written, have ascending numbers in
-/// the table of labels. A range counts as all of its labels (GAMS User's Guide, "Sets as Sequences:
+/// Whether the labels of items, in the order in which they are written, have strictly ascending
+/// numbers in the table of labels. An item of several positions counts as the labels of each
+/// position in turn, and a range as all of its labels (GAMS User's Guide, "Sets as Sequences:
 /// Ordered Sets").
 pub fn are_ascending<F>(items: &[Item<F>]) -> bool
     ensures { result ≡ is_ascending (labels_of_items items.now) }

@@ -112,15 +112,16 @@ impl<F: ExactField> Known<F> {
         self.kind(name) == SymbolKind::Set
     }
 
-    /// How many positions the domain of a name has.
+    /// How many positions the domain of a name has; an alias has those of its set.
     pub fn position_count(&self, name: u32) -> usize
         ensures { result ≡ length (positions self.now.state name) }
     {
         self.store.domain_of(name).len()
     }
 
-    /// The set at the position `place`, counted from 0, of the domain of a name. `Some(None)` if
-    /// the position admits any label, and `None` if the name has no such position.
+    /// The set at the position `place`, counted from 0, of the domain of a name; an alias has the
+    /// domain of its set. `Some(None)` if the position admits any label, and `None` if the name has
+    /// no such position.
     pub fn position(&self, name: u32, place: usize) -> Option<Option<u32>>
         ensures { result ≡ slice_get (positions self.now.state name) place }
     {
@@ -134,8 +135,8 @@ impl<F: ExactField> Known<F> {
         self.is_set(name) && self.position_count(name) == 1
     }
 
-    /// Whether a set is dynamic: some statement of the program assigns it (GAMS User's Guide,
-    /// "Dynamic Sets").
+    /// Whether a set is dynamic: some statement of the program assigns it; an alias counts as its
+    /// set (GAMS User's Guide, "Dynamic Sets").
     pub fn is_dynamic(&self, set: u32) -> bool
         ensures { result ≡ is_known_dynamic self.now set }
     {
@@ -143,8 +144,8 @@ impl<F: ExactField> Known<F> {
     }
 
     /// Whether a set is ordered: it is one-dimensional and not dynamic, and its labels are given in
-    /// the order in which labels first occur in the program (GAMS User's Guide, "Sets as Sequences:
-    /// Ordered Sets").
+    /// the order in which labels first occur in the program; an alias counts as its set (GAMS
+    /// User's Guide, "Sets as Sequences: Ordered Sets").
     pub fn is_ordered(&self, set: u32) -> bool
         ensures { result ≡ is_known_ordered self.now set }
     {
@@ -154,7 +155,7 @@ impl<F: ExactField> Known<F> {
     }
 
     /// Whether a set in the domain of a name counts: it is one-dimensional, and declared before the
-    /// name.
+    /// name, or before the set of which the name is an alias.
     fn bounds(&self, name: u32, domain_set: u32) -> bool
         ensures { result ≡ bounds self.now.state (names self.now) name domain_set }
     {
@@ -163,9 +164,10 @@ impl<F: ExactField> Known<F> {
 
     /// Whether the set `index` may be the index at a position of the name `name`. `position` is the
     /// set that the name's domain has at the position. If it is `None`, each set may be the index.
-    /// Otherwise the set `position` must be one-dimensional and declared before the name, and
-    /// `index` must be that set or one of its subsets, by the sets in their domains (GAMS User's
-    /// Guide, "Set Definition", domain checking).
+    /// Otherwise the set `position` must be one-dimensional and declared before the name (for an
+    /// alias: before its set); and `position` must be the set `index` itself, or its domain set, or
+    /// the domain set of that, and so on, where an alias counts as its set (GAMS User's Guide, "Set
+    /// Definition", domain checking).
     pub fn fits(&self, name: u32, position: Option<u32>, index: u32) -> bool
         ensures { result ≡ set_fits_position self.now.state (names self.now) (above_of self.now.declared) name position index }
     {
@@ -182,8 +184,9 @@ impl<F: ExactField> Known<F> {
 
     /// Whether the label `label` may be the index at a position of the name `name`. `position` is
     /// the set that the name's domain has at the position. If it is `None`, each label may be the
-    /// index. Otherwise the set `position` must be one-dimensional and declared before the name,
-    /// and have the label as a member. The error is out of memory.
+    /// index. Otherwise the set `position` must be one-dimensional and declared before the name
+    /// (for an alias: before its set); and it must have the label as a member. The error is out of
+    /// memory.
     pub fn holds(
         &self,
         alloc: Global,
@@ -259,8 +262,9 @@ impl<F: ExactField> Known<F> {
     }
 
     /// Of the names `first` and `second`, makes the one that is undeclared an alias of the other,
-    /// if the other is a set. In any other case, declares as a set each of the two that is
-    /// undeclared (GAMS User's Guide, "Set Definition", aliases). The error is out of memory.
+    /// if the other is a set, or of its set, if the other is an alias. In any other case, declares
+    /// as a set each of the two that is undeclared (GAMS User's Guide, "Set Definition", aliases).
+    /// The error is out of memory.
     pub fn declare_alias(
         &mut self,
         alloc: Global,
@@ -274,8 +278,9 @@ impl<F: ExactField> Known<F> {
         self.order.declare(second, None)
     }
 
-    /// Declares a name as a model. A call of `list` or `list_all` then stores the equations of the
-    /// model (GAMS User's Guide, "Model and Solve Statements").
+    /// Declares a name as a model; a name that is declared already keeps its declaration. A call of
+    /// `list` or `list_all` then stores the equations of the model (GAMS User's Guide, "Model and
+    /// Solve Statements"). The error is out of memory.
     pub fn declare_model(&mut self, alloc: Global, name: u32) -> Result<(), AllocError>
         ensures { OnOk result (self.new ≡ with_model_name self.old name) }
     {
@@ -284,7 +289,7 @@ impl<F: ExactField> Known<F> {
     }
 
     /// Stores that a model has all equations that are declared so far. If the equations of a model
-    /// are stored more than once, the first time counts.
+    /// are stored more than once, the first time counts. The error is out of memory.
     pub fn list_all(&mut self, model: u32) -> Result<(), AllocError>
         ensures { OnOk result (self.new ≡ with_model self.old model self.old.equations) }
     {
@@ -292,7 +297,7 @@ impl<F: ExactField> Known<F> {
     }
 
     /// Stores that a model has these equations. If the equations of a model are stored more than
-    /// once, the first time counts.
+    /// once, the first time counts. The error is out of memory.
     pub fn list(&mut self, model: u32, equations: Vec<u32>) -> Result<(), AllocError>
         ensures { OnOk result (self.new ≡ with_model self.old model equations.items) }
     {

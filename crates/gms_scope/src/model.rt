@@ -56,8 +56,9 @@ pub struct Model {
     pub name: u32,
     /// The equations of the model.
     pub equations: Equations,
-    /// How many equations at the start of the model's list are known to be defined. They remain
-    /// defined, so a later check begins after them.
+    /// How many equations at the start of the model's list of equations are known to be defined,
+    /// that is, to have a definition `e.. x =l= 1;`. They remain defined, so a later call of
+    /// `all_defined` begins after them.
     pub defined: usize,
 }
 
@@ -74,8 +75,8 @@ impl Drop for Model {
 
 /// The declarations of models in a program, and the names that are declared as equations.
 pub struct Models {
-    /// The names that are declared as equations, by their numbers, in the order of their
-    /// declarations.
+    /// One entry for each declaration of an equation, in the order of the declarations: the number
+    /// of the equation's name.
     pub equations: Vec<u32>,
     /// One entry for each declaration of a model, in the order of the declarations.
     pub models: Vec<Model>,
@@ -115,7 +116,11 @@ impl Models {
 }
 
 impl Models {
-    /// Appends an equation to the declared equations. The error is out of memory.
+    /// Appends the equation with the number `equation` to the declared equations. Each model keeps
+    /// its equations. `places` must have the first model of each name, as its field says, and still
+    /// does (`AreModelsListed`). If the equations that each model's field `defined` counts are
+    /// marked in a list of marks `defined`, they still are (`AreModelsCounted`). The error is out
+    /// of memory.
     pub fn declare_equation(&mut self, equation: u32) -> Result<(), AllocError>
         requires { AreModelsListed self.old }
         ensures listed { AreModelsListed self.new }
@@ -129,7 +134,10 @@ impl Models {
     }
 
     /// Appends a declaration of the model `name`, whose equations are all that are declared so far.
-    /// The call changes nothing if the program does not have the name. The error is out of memory.
+    /// The call changes nothing if the program does not have the name. `places` must have the first
+    /// model of each name, as its field says, and still does (`AreModelsListed`). If the equations
+    /// that each model's field `defined` counts are marked in a list of marks `defined`, they still
+    /// are (`AreModelsCounted`). The error is out of memory.
     pub fn declare_all(&mut self, name: u32) -> Result<(), AllocError>
         requires { AreModelsListed self.old }
         ensures listed { AreModelsListed self.new }
@@ -142,8 +150,11 @@ impl Models {
         self.declare(name, Equations::All(count))
     }
 
-    /// Appends a declaration of the model `name`, whose equations are `equations`. The call changes
-    /// nothing if the program does not have the name. The error is out of memory.
+    /// Appends a declaration of the model `name`, whose equations are those with the numbers
+    /// `equations`. The call changes nothing if the program does not have the name. `places` must
+    /// have the first model of each name, as its field says, and still does (`AreModelsListed`). If
+    /// the equations that each model's field `defined` counts are marked in a list of marks
+    /// `defined`, they still are (`AreModelsCounted`). The error is out of memory.
     pub fn declare_listed(&mut self, name: u32, equations: Vec<u32>) -> Result<(), AllocError>
         requires { AreModelsListed self.old }
         ensures listed { AreModelsListed self.new }
@@ -186,7 +197,9 @@ impl Models {
     /// Whether all equations of a model, by its first declaration, are defined, where `defined`
     /// marks the defined ones; true for a name without a model. The call stores with the model how
     /// many equations at the start of its list are defined, so that the next call begins after
-    /// them.
+    /// them. `places` must have the first model of each name (`AreModelsListed`), and the equations
+    /// that the stored numbers count must be marked in `defined` (`AreModelsCounted`); both still
+    /// hold.
     pub fn all_defined(&mut self, model: u32, defined: &Marks) -> bool
         requires listed { AreModelsListed self.old }
         requires counted { AreModelsCounted defined.now self.old }

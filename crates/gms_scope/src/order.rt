@@ -6,30 +6,35 @@ ghost use Rattle.gms_scope.specs.Order.{IsOrder, IsNodeStep, entries_of_nodes, e
 
 use std::alloc::{AllocError, Global};
 
-/// One declaration of a name. The place of a node is its index in the list of nodes, from 0.
+/// One declaration of a name of any kind. The place of a node is its index in the list of nodes,
+/// from 0.
 ///
-/// A name is directly below its domain set, the set in its domain: after `set j(i);` the set `j` is
-/// below the set `i`, and `i` is above `j`.
+/// Only a one-dimensional set has a domain set: the set in its domain, an alias replaced by its
+/// set. It is directly below this set: after `set j(i);` the set `j` is below the set `i`, and `i`
+/// is above `j`.
 #[derive(Clone, Copy)]
 pub struct Node {
     /// The number of the name that is declared.
     pub name: u32,
-    /// The domain set of the name, by its number: the set that the name is directly below. `None`
-    /// if the name is below no set.
+    /// The number of the domain set, the one set that the name is directly below by this
+    /// declaration. `None` if this declaration gives the name no domain set.
     pub below: Option<u32>,
-    /// How many sets are above the name: its domain set, the domain set of that set, and so on.
+    /// How many sets are above the name: its domain set, the domain set of that set, and so on; 0
+    /// if it has no domain set.
     pub depth: usize,
-    /// The place, which is the index in the list of nodes, of the node that declares the domain set
-    /// of the name; this node's own place if the name has no domain set.
+    /// The place, which is the index in the list of nodes, of the first node that declares the
+    /// domain set `below`; this node's own place if `below` is `None`.
     pub above: usize,
     /// The place, which is the index in the list of nodes, of a node one or more steps above this
-    /// node, each step from a name to its domain set; this node's own place if no node is above it.
-    /// A search that goes up from this node takes all these steps at once.
+    /// node, each step from a node to its `above`; this node's own place if no node is above it. A
+    /// search upward for a place goes from this node to `far` if `far` is not less than that place;
+    /// otherwise it goes one step, to `above`.
     pub far: usize,
 }
 
-/// The declarations of names in a program, in order. They tell which names are below which sets, by
-/// the sets in their domains.
+/// The declarations of names in a program, in order. They tell which one-dimensional sets are below
+/// which: a set is below its domain set (the set in its domain), below the domain set of that set,
+/// and so on.
 pub struct Order {
     /// One node for each declaration of a name, in the order of the declarations.
     pub nodes: Vec<Node>,
@@ -89,9 +94,11 @@ impl Order {
         }
     }
 
-    /// Appends a declaration of the name `name`. Its domain set is `above`, if that set is
-    /// declared; otherwise it has no domain set. The call changes nothing if the program does not
-    /// have the name. The error is out of memory.
+    /// Appends a declaration of the name `name`. Its domain set is `above`, if an earlier node
+    /// declares that set; otherwise, and if `above` is `None`, it has no domain set. The call
+    /// changes nothing if the program does not have the name. `first`, and `above` and `far` of
+    /// each node, must be as their fields say, and still are (`IsOrder`). The error is out of
+    /// memory.
     pub fn declare(&mut self, name: u32, above: Option<u32>) -> Result<(), AllocError>
         requires { IsOrder self.old }
         ensures order { IsOrder self.new }
@@ -160,7 +167,8 @@ impl Order {
     }
 
     /// Whether the name `name` is declared before the name `other`, by the first declaration of
-    /// each. True if `name` alone is declared, and false if `name` is not declared.
+    /// each. True if `name` alone is declared, and false if `name` is not declared. `first`, and
+    /// `above` and `far` of each node, must be as their fields say (`IsOrder`).
     pub fn is_before(&self, name: u32, other: u32) -> bool
         requires { IsOrder self.now }
         ensures { result ≡ is_met_before (names_of_nodes self.now.nodes.items) name other }
@@ -170,8 +178,9 @@ impl Order {
         order > 0 && (others == 0 || order < others)
     }
 
-    /// Whether the set `name` is the set `other`, or reaches it by steps from a set to its domain
-    /// set.
+    /// Whether the set `name` is the set `other`, or reaches it by one or more steps, each from a
+    /// set to the domain set that its first declaration gives it. `first`, and `above` and `far` of
+    /// each node, must be as their fields say (`IsOrder`).
     pub fn is_below(&self, name: u32, other: u32) -> bool
         requires { IsOrder self.now }
         ensures { result ≡ is_below_within (length self.now.nodes.items) (above_of (entries_of_nodes self.now.nodes.items)) name other }

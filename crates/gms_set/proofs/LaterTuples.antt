@@ -1,8 +1,6 @@
 -- Tuples that come after others, and which tuples are in the set of those given so far.
-use Rattle.std.proofs.Common.{ℕ, ◌≡◌, ◌++◌, ◌∷◌, [], ◌-◌, Bool, true, false, ◌||◌, ◌==◌, List, length, take, slice_get, Some, None, refl, sym, ap, subst, ◌∙◌, arith, Option}
-use Rattle.std.specs.declared.cmp.Ordering.{Ordering}
-use Rattle.std.specs.declared.cmp.Ordering.TheVariants.{Less, Equal, Greater}
-use Rattle.std.specs.Ordering.{ordering_index}
+use Rattle.std.proofs.Common.{ℕ, ◌≡◌, ◌++◌, ◌∷◌, [], ◌-◌, Bool, true, false, ◌||◌, List, length, take, slice_get, Some, None, refl, sym, ap, subst, ◌∙◌, arith, Option}
+use Rattle.std.specs.declared.cmp.Ordering.TheVariants.{Less}
 use Rattle.std.specs.List.{All}
 use Rattle.std.proofs.lemmas.List.{map-append}
 use Rattle.std.proofs.lemmas.List.Elements.{All-nil, All-cons, All-head, All-tail, All-append, All-weaker}

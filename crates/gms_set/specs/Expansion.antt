@@ -15,7 +15,7 @@ use Rattle.gms_set.specs.declared.fault.SetFault.{SetFault}
 use Rattle.gms_set.specs.declared.fault.SetFaultOrMemory.{SetFaultOrMemory}
 use Rattle.gms_set.specs.declared.fault.SetFaultOrMemory.TheVariants.{Memory, Fault}
 
--- whether a tuple occurs twice in a list
+-- whether some tuple occurs more than once in a list
 abbrev pub has_repeat : List (List ℕ) → Bool
 has_repeat [] = false
 has_repeat (tuple ∷ tuples) = has tuples tuple || has_repeat tuples
@@ -27,7 +27,8 @@ is_outside state None label = false
 is_outside state (Some set) label = not (has (members_of state set) (label ∷ []))
 
 -- whether some position of an item has a label that is no member of the set of the position;
--- `parts` are the labels of each position
+-- `parts` are the labels of each position. A position that only one of the two lists has does not
+-- count
 abbrev pub has_outside : State → List (Option ℕ) → List (List ℕ) → Bool
 has_outside state (set ∷ sets) (labels ∷ rest) = list_any (is_outside state set) labels || has_outside state sets rest
 has_outside state sets parts = false
@@ -69,8 +70,8 @@ module _ {F : Type 0} where
   abbrev pub expanded : State → List (Option ℕ) → List (Item F) → Result (ExpandedData F) SetFault
   expanded state domain items = with_items state domain [] items
 
-  -- a reported error is right, where `meant` is the result of the data list: the error is its
-  -- fault, or memory ran out
+  -- a reported error is right, where `meant` is the result of the data list: the error is the fault
+  -- that `meant` is, or memory ran out
   abbrev pub IsFaultOf : Result (ExpandedData F) SetFault → SetFaultOrMemory → Type 0
   IsFaultOf meant Memory = Unit {0}
   IsFaultOf meant (Fault fault) = meant ≡ Err fault

@@ -51,8 +51,8 @@ abbrev pub is_range : List ℕ → List ℕ → Bool
 is_range from to =
     str_eq_ignore_ascii_case (text_before_digits from) (text_before_digits to) && (is_numbered from && (is_numbered to && (go_together (digits_of from) (digits_of to) && is_short (number_in_label from) (number_in_label to))))
 
--- the least number of digits of the members of a range, from the digits of the first: their number
--- if they are padded with zeros, otherwise 0
+-- the least number of digits of the members of a range, from the digits of the first member: how
+-- many these are if they are padded with zeros, otherwise 0
 abbrev pub digit_width : List ℕ → ℕ
 digit_width digits = if is_padded digits then length digits else 0
 
@@ -61,7 +61,7 @@ abbrev pub padded_digits : ℕ → ℕ → List ℕ
 padded_digits width n = replicate (width - length (decimal n)) 48 ++ decimal n
 
 -- the members of the range `from*to`, in order: the text of `from` before its digits, followed by
--- each number
+-- each number from that of `from` to that of `to`, which has at least `digit_width` digits
 abbrev pub members : List ℕ → List ℕ → List (List ℕ)
 members from to =
     map (λ n. text_before_digits from ++ padded_digits (digit_width (digits_of from)) n) (range_with_len (number_in_label from) (number_in_label to - number_in_label from + 1))
@@ -70,8 +70,8 @@ members from to =
 abbrev pub no_range : SetFault
 no_range = record { error = BadRange; at = record { line = 0; column = 0 } }
 
--- a reported error of a range is right, where `range` is whether the two labels are one: they are
--- none, and the error is that fault; or memory ran out
+-- a reported error of a range is right, where `range` is whether the two labels are a range: they
+-- are no range, and the error is the fault `no_range`; or memory ran out
 abbrev pub IsRangeError : Bool → SetFaultOrMemory → Type 0
 IsRangeError range Memory = Unit {0}
 IsRangeError range (Fault fault) = (range ≡ false) × (fault ≡ no_range)

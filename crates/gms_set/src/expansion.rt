@@ -22,8 +22,8 @@ pub(crate) const MOST_TUPLES: usize = 1_048_576;
 /// The tuples that the items of a data list gave so far, each with the value of its item. No tuple
 /// occurs twice.
 ///
-/// As long as each tuple is greater than the one before it, `seen` is `None`. From the first tuple
-/// that is not greater, `seen` is the set of all tuples so far.
+/// The field `seen` is `None` only if each tuple is greater than the one before it. Otherwise it is
+/// the set of all tuples so far. Two tuples compare by the numbers of the first labels that differ.
 #[derive(Drop)]
 pub struct Expansion<F> {
     given: Vec<(Tuple, Option<Ext<F>>)>,
@@ -64,9 +64,13 @@ impl<F: ExactField> Expansion<F> {
     }
 
     /// Appends the tuples of an item, each with the item's value. `None` means that the item has no
-    /// error and all its tuples were appended. `Some` has the first error of the item; no contract
-    /// states which of its tuples were then appended. `domain` has the set of each position, `None`
-    /// for one that admits any label.
+    /// error and all its tuples were appended. `Some` has the error of the item; no contract states
+    /// which of its tuples were then appended. Of several errors it is the first in this order: a
+    /// label that the set of its position does not have; two labels that are no range; more than
+    /// 1,048,576 tuples, together with those so far; a tuple that occurs twice, or among those so
+    /// far. `domain` has the set of each position, `None` for a position that admits any label;
+    /// `store` has the members of these sets. The item has one list of labels for each position,
+    /// and there are at most ten positions. The error of the call itself is out of memory.
     pub fn add(
         &mut self,
         alloc: Global,

@@ -7,7 +7,7 @@ use gms_labels::Place;
 use std::alloc::{AllocError, AllocFailed};
 use thiserror::Error;
 
-/// Why a data list has no tuples.
+/// Why a data list is refused: the error of one of its items.
 #[derive(Clone, Copy, Debug, Error)]
 pub enum SetError {
     /// Two labels that are not a range, as `a3*a1`.
@@ -50,7 +50,8 @@ impl SetError {
     }
 }
 
-/// An error of a data list and the place of its item.
+/// An error of a data list and the place of the item with the error; or the error of the function
+/// `range`.
 #[derive(Clone, Copy, Debug, Error)]
 #[error("{at}: {code} {name}: {error}", code = .error.code(), name = .error.name())]
 pub struct SetFault {

@@ -11,9 +11,9 @@ use gms_tuple::Tuple;
 use gq_field::ExactField;
 use std::alloc::{AllocError, Global};
 
-/// Whether some position of an item has a label that is no member of the set of the position.
-/// `parts` are the labels of each position, and `domain` has the set of each, `None` for one that
-/// admits any label.
+/// Whether some position of an item has a label that is no member, by `store`, of the set of the
+/// position. `parts` has the item's labels for each position, and `domain` has the set of each
+/// position, `None` for a position that admits any label. The error is out of memory.
 pub fn has_outside<F: ExactField>(
     alloc: Global,
     store: &Store<F>,

@@ -24,8 +24,10 @@ const MOST_DIGITS: usize = 9;
 /// label ends in no digits or in more than nine; the number of `to` is less than that of `from`, or
 /// there would be more than 65,536 members; the number of `from` is written with zeros before it
 /// and that of `to` with another number of digits, or that of `to` alone is written with zeros
-/// before it. The fault is then BadRange at line 0 and column 0. If the number of `from` is written
-/// with zeros before it, all members have as many digits. GAMS User's Guide, "Set Definition".
+/// before it. The fault is then BadRange at line 0 and column 0. The only other error is out of
+/// memory. If the number of `from` is written with zeros before it, the number of each member is
+/// written with as many digits as that of `from`; otherwise with no zeros before it. GAMS User's
+/// Guide, "Set Definition".
 pub fn range(alloc: Global, from: &str, to: &str) -> Result<Vec<String>, SetFaultOrMemory>
     ensures members { IfOk result (λ labels. (is_range from.now to.now ≡ true) × (map string_bytes labels.items ≡ members from.now to.now)) }
     ensures fault { IfErr result (IsRangeError (is_range from.now to.now)) }

@@ -10,12 +10,13 @@ use gq_extended::Ext;
 use std::alloc::{AllocError, Global};
 use std::cmp::Ordering;
 
-/// Whether a tuple is new, that is, none of those in `given`. If it is new, `seen` afterwards
-/// describes the tuples in `given`, followed by this one. If it is not, or memory runs out, `seen`
-/// describes those in `given` alone.
+/// Whether a tuple is new, that is, none of those in `given`. Before the call, `seen` describes the
+/// tuples in `given`. If the tuple is new, `seen` afterwards describes those in `given`, followed
+/// by this one. If it is not, or memory runs out, `seen` describes those in `given` alone.
 ///
-/// As long as each of the tuples is greater than all before it, `seen` is `None`. From the first
-/// tuple that is not greater, `seen` is the set of the tuples.
+/// To describe tuples, `seen` is either the set of them, or `None`; `None` only if each tuple is
+/// greater than the one before it. Two tuples compare by the numbers of the first labels that
+/// differ.
 pub fn see<F>(
     alloc: Global,
     seen: &mut Option<TupleSet>,

@@ -14,15 +14,17 @@ use Rattle.gms_store.specs.declared.kind.VariableType.TheVariants.{Free, Positiv
 use Rattle.gms_store.specs.declared.settings.Settings.{Settings}
 use Rattle.gms_store.specs.State.{Entries, Attributes, Content, undeclared, alias_of, set_of, parameter_of, variable_of, equation_of, model_with, Symbol, State}
 
--- the code of a number: its numerator and its denominator, which determine it
+-- the one-to-one encoding (`Coded`) of a number, by its numerator and its denominator, which
+-- determine it
 abbrev pub number_code : Coded Number
 number_code = coded_via (coded× coded_ℤ coded_ℕ) (λ (x : Number). (x.numerator, x.denominator)) same_parts
   where
     same_parts : (x y : Number) → ◌≡◌ {A = ℤ × ℕ} (x.numerator, x.denominator) (y.numerator, y.denominator) → x ≡ y
     same_parts x y e = number_from_parts x y (ap (λ (p : ℤ × ℕ). p.0) e) (ap (λ (p : ℤ × ℕ). p.1) e)
 
--- the code of an extended number: a number, or 0 for plus infinity, 1 for minus infinity and 2 for
--- NA
+-- the one-to-one encoding (`Coded`) of an extended number, by one case of a sum: of a number by the
+-- first case, with its own encoding; of the others by the second case, with 0 for plus infinity, 1
+-- for minus infinity and 2 for NA
 abbrev pub extended_code : Coded extended.Extended
 extended_code = code_by (Number ⊎ ℕ) (coded⊎ number_code coded_ℕ) to from back
   where
@@ -44,13 +46,13 @@ extended_code = code_by (Number ⊎ ℕ) (coded⊎ number_code coded_ℕ) to fro
     back extended.minus_infinity = refl
     back extended.na = refl
 
--- the code of attributes: the two bounds, the level and the marginal
+-- the one-to-one encoding (`Coded`) of attributes, by the two bounds, the level and the marginal
 abbrev pub attributes_code : Coded Attributes
 attributes_code =
     code_by (Option Number × (Option Number × (Number × Number))) (coded× (coded_option number_code) (coded× (coded_option number_code) (coded× number_code number_code)))
     (λ a. (a.lower, (a.upper, (a.level, a.marginal)))) (λ p. record { lower = p.0; upper = p.1.0; level = p.1.1.0; marginal = p.1.1.1 }) (λ _. refl)
 
--- the code of a variable's type: a number from 0 to 3
+-- the one-to-one encoding (`Coded`) of a variable's type, by a number from 0 to 3
 abbrev pub type_code : Coded VariableType
 type_code = code_by ℕ coded_ℕ to from back
   where
@@ -72,16 +74,19 @@ type_code = code_by ℕ coded_ℕ to from back
     back Negative = refl
     back Discrete = refl
 
--- the code of a finite map from tuples, from the code of its values
+-- the one-to-one encoding (`Coded`) of a finite map from tuples, from the encoding of its values
 abbrev pub entries_code : {X : Type 0} → Coded X → Coded (Entries X)
 entries_code x = finite.code (coded_list coded_ℕ) x
 
--- what each kind of content is made of, as a sum with one case for each kind
+-- what each kind of content is made of, as a sum with one case for each kind, in this order: no
+-- data of an undeclared name, the number of the set of an alias, the members of a set, the entries
+-- of a parameter, the type and the entries of a variable, the entries of an equation, and the
+-- numbers of the two statuses of a model, its own and the solver's
 abbrev Parts : Type 0
 Parts =
     Unit {0} ⊎ (ℕ ⊎ (List (List ℕ) ⊎ (Entries extended.Extended ⊎ ((VariableType × Entries Attributes) ⊎ (Entries Attributes ⊎ (ℕ × ℕ))))))
 
--- the code of what a name denotes: its kind and what that is made of
+-- the one-to-one encoding (`Coded`) of what a name denotes, by its kind and what that is made of
 abbrev pub content_code : Coded Content
 content_code =
     code_by Parts (coded⊎ coded_unit (coded⊎ coded_ℕ (coded⊎ (coded_list (coded_list coded_ℕ)) (coded⊎ (entries_code extended_code) (coded⊎ (coded× type_code (entries_code attributes_code)) (coded⊎ (entries_code attributes_code) (coded× coded_ℕ coded_ℕ))))))) to from back
@@ -113,18 +118,18 @@ content_code =
     back (equation_of entries) = refl
     back (model_with model solver) = refl
 
--- the code of a symbol: its domain and its content
+-- the one-to-one encoding (`Coded`) of a symbol, by its domain and its content
 abbrev pub symbol_code : Coded Symbol
 symbol_code =
     code_by (List (Option ℕ) × Content) (coded× (coded_list (coded_option coded_ℕ)) content_code) (λ s. (s.domain, s.content)) (λ p. record { domain = p.0; content = p.1 }) (λ _. refl)
 
--- the code of settings: their six values
+-- the one-to-one encoding (`Coded`) of settings, by their six values
 abbrev pub settings_code : Coded Settings
 settings_code =
     code_by (ℕ × (ℕ × (ℕ × (ℕ × (Bool × ℕ))))) (coded× coded_ℕ (coded× coded_ℕ (coded× coded_ℕ (coded× coded_ℕ (coded× coded_bool coded_ℕ)))))
     (λ s. (s.limrow, (s.limcol, (s.iterlim, (s.decimals, (s.solprint, s.solver)))))) (λ p. record { limrow = p.0; limcol = p.1.0; iterlim = p.1.1.0; decimals = p.1.1.1.0; solprint = p.1.1.1.1.0; solver = p.1.1.1.1.1 }) (λ _. refl)
 
--- the code of a state: its symbols and its settings
+-- the one-to-one encoding (`Coded`) of a state, by its symbols and its settings
 abbrev pub state_code : Coded State
 state_code =
     code_by (List Symbol × Settings) (coded× (coded_list symbol_code) settings_code) (λ s. (s.symbols, s.settings)) (λ p. record { symbols = p.0; settings = p.1 }) (λ _. refl)

@@ -19,12 +19,14 @@ use Rattle.gms_store.specs.declared.kind.SymbolKind.TheVariants as kind
 use Rattle.gms_store.specs.declared.settings.Settings.{Settings}
 use Rattle.gms_store.specs.State.{Content, undeclared, alias_of, set_of, parameter_of, variable_of, equation_of, model_with, Symbol, State, with_content, no_symbol, symbol_at, base_of}
 
--- the domain that is written in a declaration, with each set by the number of its name
+-- the domain that is written in a declaration, with each set by the number of its name; None, of a
+-- position that admits any label, stays
 abbrev pub names_of : List (Option Named) → List (Option ℕ)
 names_of domain = map (λ position. option_map (λ (named : Named). named.name) position) domain
 
--- the domain of a name that is declared by this kind of declaration with this written domain: a set
--- without a written domain has one position, which admits any label (None)
+-- the domain of a name that is declared by this kind of declaration with this written domain, each
+-- position by the number of its set's name, or None if it admits any label: a set without a written
+-- domain has one position, None; any other declaration has the written domain
 abbrev pub positions_of : DeclKind → List (Option ℕ) → List (Option ℕ)
 positions_of Set [] = None ∷ []
 positions_of kind domain = domain
@@ -46,8 +48,8 @@ content_of Equation = equation_of finite.empty
 abbrev pub symbol_of_kind : DeclKind → List (Option ℕ) → Symbol
 symbol_of_kind kind domain = record { domain = positions_of kind domain; content = content_of kind }
 
--- the content of a name that is declared once more, as `later`: a free variable becomes a variable
--- of the later type, without data; any other content stays
+-- the content of a name that is declared once more, as `later`: a free variable becomes `later` if
+-- that is a variable of any type; in any other case the content stays
 abbrev pub retyped : Content → Content → Content
 retyped (variable_of type.Free entries) (variable_of type none) = variable_of type none
 retyped content later = content
@@ -74,8 +76,8 @@ is_undeclared undeclared = true
 is_undeclared content = false
 
 -- a symbol after one more declaration of its name, of this kind and written domain: a new name is
--- declared, and a declared one keeps its first declaration, except that a free variable gets the
--- type of the later one
+-- declared, and a declared one keeps its first declaration, with one exception: a free variable
+-- that is declared as a variable once more gets the later type, and has no data
 abbrev pub declared_again : DeclKind → List (Option ℕ) → Symbol → Symbol
 declared_again kind domain symbol =
     if is_undeclared symbol.content then symbol_of_kind kind domain else with_content symbol (retyped symbol.content (content_of kind))
@@ -84,7 +86,8 @@ declared_again kind domain symbol =
 abbrev pub put_at : State → ℕ → Symbol → State
 put_at state name symbol = record { symbols = set state.symbols name symbol; settings = state.settings }
 
--- the state after a declaration of the name of this number, of this kind and written domain
+-- the state after a declaration of the name of this number, of this kind and written domain; a
+-- declared name keeps its first declaration, except that a free variable may get another type
 abbrev pub declare : DeclKind → List (Option ℕ) → State → ℕ → State
 declare kind domain state name =
     put_at state name (declared_again kind domain (symbol_at state name))
@@ -103,7 +106,7 @@ kind_in (model_with model solver) = kind.Model
 abbrev pub alias_symbol : ℕ → Symbol
 alias_symbol base = record { domain = []; content = alias_of base }
 
--- the symbol of a model before any solve
+-- the symbol of a model before any solve: the number of its status and that of the solver's are 0
 abbrev pub model_symbol : Symbol
 model_symbol = record { domain = []; content = model_with 0 0 }
 
@@ -111,14 +114,14 @@ model_symbol = record { domain = []; content = model_with 0 0 }
 abbrev pub join_name : State → ℕ → ℕ → State
 join_name state old new = put_at state new (alias_symbol (base_of state old))
 
--- whether the name `new` can become an alias of the name `old`: `old` is a set, and `new` is not
--- declared
+-- whether the name `new` can become an alias of the name `old`: `old` is a set or an alias of one,
+-- and `new` is not declared
 abbrev pub can_join : State → ℕ → ℕ → Bool
 can_join state old new = is_set (symbol_at state old).content && is_undeclared (symbol_at state new).content
 
--- the state after `alias (first, second)`: the one that is not declared becomes an alias of the
--- other, which is a set. In any other case, an error of the program, each of the two that is not
--- declared becomes a set
+-- the state after `alias (first, second)`: if one is a set or an alias of one, and the other is not
+-- declared, the undeclared one becomes an alias of that set. In any other case, an error of the
+-- program, each of the two that is not declared becomes a set
 abbrev pub declare_alias : State → ℕ → ℕ → State
 declare_alias state first second =
     if can_join state first second then join_name state first second else if can_join state second first then join_name state second first else declare Set [] (declare Set [] state first) second
@@ -132,11 +135,13 @@ declare_model state name =
 abbrev pub declare_models : State → List ModelDecl → State
 declare_models state models = fold (λ state (model : ModelDecl). declare_model state model.named.name) state models
 
--- the settings that a run begins with
+-- the settings that a run begins with; the solver is given by its index in the list of the run's
+-- solvers, here the first
 abbrev pub first_settings : Settings
 first_settings = record { limrow = 3; limcol = 3; iterlim = 1000; decimals = 3; solprint = true; solver = 0 }
 
--- the state with `names` names, of which none is declared
+-- the state with `names` names, of which none is declared, and with the settings that a run begins
+-- with
 abbrev pub blank_state : ℕ → State
 blank_state names = record { symbols = replicate names no_symbol; settings = first_settings }
 

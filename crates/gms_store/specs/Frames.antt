@@ -1,6 +1,6 @@
 -- What stays unchanged in a state if one entry of a name, or the statuses of a model, change.
-use Rattle.std.specs.Prelude.{◌≡◌, ℕ, List, length}
-use Rattle.gms_store.specs.State.{State, Symbol, base_of, symbol_of}
+use Rattle.std.specs.Prelude.{◌≡◌, ℕ, length}
+use Rattle.gms_store.specs.State.{State, base_of, symbol_of}
 
 -- From the old state to the new one, only the symbol that `name` denotes may change, and not its
 -- domain: every other symbol is unchanged, each name keeps its domain and stays an alias of what it

@@ -15,7 +15,8 @@ overlaid_symbols [] others = []
 overlaid_symbols (symbol ∷ symbols) [] = symbol ∷ symbols
 overlaid_symbols (symbol ∷ symbols) (other ∷ others) = chosen symbol other ∷ overlaid_symbols symbols others
 
--- one state over another: each name that the state `other` declares is as it is there, and each
--- other name is as in `state`; the settings are those of `other`
+-- one state over another: a name of `state` has its symbol in `other` if `other` declares it, and
+-- else its symbol in `state`; names that only `other` has are left out; the settings are those of
+-- `other`
 abbrev pub overlaid : State → State → State
 overlaid state other = record { symbols = overlaid_symbols state.symbols other.symbols; settings = other.settings }

@@ -13,12 +13,14 @@ abbrev pub entries_mapped : {X Y : Type 0} → (X → Y) → Entries X → Entri
 entries_mapped f entries = finite.from_entries (map (λ e. (e.0, f e.1)) (finite.entries entries))
 
 module _ {F : Type 0} (value : F → Number) where
-  -- the attributes of an element with the numbers that its values mean
+  -- the attributes of an element, with each number of the field `F` replaced by the number that it
+  -- means (`value`)
   abbrev pub attributes_shown : own.Attributes F → Attributes
   attributes_shown a =
       record { lower = option_map value a.lower; upper = option_map value a.upper; level = value a.level; marginal = value a.marginal }
 
-  -- what a name denotes, with the numbers that its values mean
+  -- what a name denotes, with each number of the field `F` in its data replaced by the number that
+  -- it means (`value`)
   abbrev pub content_shown : kept.Content F → Content
   content_shown variant.Undeclared = undeclared
   content_shown (variant.Alias base) = alias_of base

@@ -42,8 +42,9 @@ pub data Content : Type 0 where
   -- a model, with the number of the model's status and that of the solver's, in this order
   model_with : ℕ → ℕ → Content
 
--- A name of the program. Its domain has, for each position, the set of its declaration, or None if
--- the position admits any label; the content is what the name denotes.
+-- What is known of a name of the program. Its domain has, for each position, the number of the name
+-- of the position's set, or None if the position admits any label. The content is what the name
+-- denotes.
 pub record Symbol : Type 0 where
   pub domain : List (Option ℕ)
   pub content : Content
@@ -52,6 +53,7 @@ pub record Symbol : Type 0 where
 pub record State : Type 0 where
   -- the symbol of the name of each number
   pub symbols : List Symbol
+  -- the values of the options
   pub settings : Settings
 
 -- ---- names
@@ -104,14 +106,16 @@ abbrev pub unbounded : Attributes
 unbounded = record { lower = None; upper = None; level = whole (pos 0); marginal = whole (pos 0) }
 
 -- the attributes of an element of a variable without data: the bounds of the variable's type, level
--- 0 and marginal 0
+-- 0 and marginal 0. `Discrete` is the type of a `binary` or `integer` variable and the like, an
+-- error of the program; it sets no bounds
 abbrev pub absent_variable : VariableType → Attributes
 absent_variable Free = unbounded
 absent_variable Positive = record { lower = Some (whole (pos 0)); upper = None; level = whole (pos 0); marginal = whole (pos 0) }
 absent_variable Negative = record { lower = None; upper = Some (whole (pos 0)); level = whole (pos 0); marginal = whole (pos 0) }
 absent_variable Discrete = unbounded
 
--- the attributes of an element without data of a variable (by its type) or an equation (no bounds)
+-- the attributes of an element without data: of a variable by its type; of an equation, and of any
+-- other content, no bounds, level 0 and marginal 0
 abbrev pub absent : Content → Attributes
 absent (variable_of type entries) = absent_variable type
 absent content = unbounded
@@ -138,7 +142,7 @@ value_in (parameter_of entries) t = unwrap_or (finite.get entries t) zero
 value_in content t = zero
 
 -- the attributes of a variable or an equation at a tuple: those of an element without data if none
--- are kept
+-- are kept; for any other content no bounds, level 0 and marginal 0
 abbrev pub attributes_in : Content → List ℕ → Attributes
 attributes_in (variable_of type entries) t = unwrap_or (finite.get entries t) (absent_variable type)
 attributes_in (equation_of entries) t = unwrap_or (finite.get entries t) unbounded
@@ -151,7 +155,7 @@ has_attributes (equation_of entries) = true
 has_attributes content = false
 
 -- the tuples with data: the members of a set, or the tuples at which a parameter, a variable or an
--- equation keeps an entry
+-- equation keeps an entry; none of any other content
 abbrev pub given_in : Content → List (List ℕ)
 given_in (set_of members) = members
 given_in (parameter_of entries) = finite.keys entries
@@ -164,44 +168,54 @@ abbrev pub statuses_in : Content → ℕ × ℕ
 statuses_in (model_with model solver) = (model, solver)
 statuses_in content = (0, 0)
 
--- the members of the set of this name
+-- the members of the set that this name denotes, itself or as an alias; none if it denotes no set
 abbrev pub members_of : State → ℕ → List (List ℕ)
 members_of state name = members_in (symbol_of state name).content
 
--- the value of the parameter of this name at a tuple
+-- the value of the parameter of this name at a tuple: 0 if none is kept, or if the name is no
+-- parameter
 abbrev pub value_of : State → ℕ → List ℕ → extended.Extended
 value_of state name t = value_in (symbol_of state name).content t
 
--- the attributes of the variable or equation of this name at a tuple
+-- the attributes of the variable or equation of this name at a tuple: those of an element without
+-- data if none are kept; if the name is neither, no bounds, level 0 and marginal 0
 abbrev pub attributes_of : State → ℕ → List ℕ → Attributes
 attributes_of state name t = attributes_in (symbol_of state name).content t
 
--- the tuples with data of this name
+-- the tuples with data of this name: the members of the set that it denotes, itself or as an alias,
+-- or the tuples at which a parameter, a variable or an equation keeps an entry; none of any other
+-- name
 abbrev pub given_of : State → ℕ → List (List ℕ)
 given_of state name = given_in (symbol_of state name).content
 
--- whether there are data at a tuple: it is a member of the set, or the value or the attributes
--- there differ from those of an element without data
+-- whether there are data at a tuple: it is a member of the set, or the value of the parameter or
+-- the attributes of the variable or equation there differ from those of an element without data;
+-- false for any other content
 abbrev pub differs_in : Content → List ℕ → Bool
 differs_in (set_of members) t = has members t
 differs_in (parameter_of entries) t = is_given (value_in (parameter_of entries) t)
 differs_in content t = not (same_attributes (attributes_in content t) (absent content))
 
--- whether a value fits under the limit of the size of numbers; one that is no number does
+-- whether a value is within the limit of the size of numbers: its numerator and its denominator are
+-- at most `limit` in magnitude (`fits`); true for an infinity and NA
 abbrev pub value_fits : ℕ → extended.Extended → Bool
 value_fits limit (extended.number x) = fits limit x
 value_fits limit value = true
 
--- whether a bound, if finite, fits under the limit of the size of numbers
+-- whether a bound is within the limit of the size of numbers: its numerator and its denominator are
+-- at most `limit` in magnitude (`fits`); true for an infinite bound (None)
 abbrev pub bound_fits : ℕ → Option Number → Bool
 bound_fits limit None = true
 bound_fits limit (Some x) = fits limit x
 
--- whether the bounds, the level and the marginal fit under the limit of the size of numbers
+-- whether the finite bounds, the level and the marginal are within the limit of the size of
+-- numbers: the numerator and the denominator of each are at most `limit` in magnitude (`fits`)
 abbrev pub attributes_fit : ℕ → Attributes → Bool
 attributes_fit limit a = bound_fits limit a.lower && (bound_fits limit a.upper && (fits limit a.level && fits limit a.marginal))
 
--- whether all numbers that a content has at a tuple fit under the limit of the size of numbers
+-- whether all numbers that a parameter, a variable or an equation has at a tuple are within the
+-- limit of the size of numbers: the numerator and the denominator of each are at most `limit` in
+-- magnitude; true for any other content
 abbrev pub fits_at : ℕ → Content → List ℕ → Bool
 fits_at limit (parameter_of entries) t = value_fits limit (value_in (parameter_of entries) t)
 fits_at limit (variable_of type entries) t = attributes_fit limit (attributes_in (variable_of type entries) t)
@@ -267,22 +281,27 @@ if_fits symbol t content = if length t == length symbol.domain then with_content
 -- After a write one entry of one name has changed, and all else stays. A name of another kind and a
 -- tuple of another length change nothing.
 
--- the state after a tuple was inserted into the set of this name if `on`, otherwise removed from it
+-- the state after a tuple was inserted into the set that this name denotes, itself or as an alias,
+-- if `on`, otherwise removed from it; unchanged if the name denotes no set, or if the set's number
+-- of positions is not the tuple's number of labels
 abbrev pub after_membership : State → ℕ → List ℕ → Bool → State
 after_membership state name t on =
     with_symbol state name (if_fits (symbol_of state name) t (with_membership (symbol_of state name).content t on))
 
--- the state after this value was written to the parameter of this name at a tuple
+-- the state after this value was written to the parameter of this name at a tuple; unchanged if the
+-- name is no parameter, or has another number of positions than the tuple has labels
 abbrev pub after_value : State → ℕ → List ℕ → extended.Extended → State
 after_value state name t x = with_symbol state name (if_fits (symbol_of state name) t (with_value (symbol_of state name).content t x))
 
--- the state after these attributes were written to the variable or equation of this name at a tuple
+-- the state after these attributes were written to the variable or equation of this name at a
+-- tuple; unchanged if the name is neither, or has another number of positions than the tuple has
+-- labels
 abbrev pub after_attributes : State → ℕ → List ℕ → Attributes → State
 after_attributes state name t a =
     with_symbol state name (if_fits (symbol_of state name) t (with_attributes (symbol_of state name).content t a))
 
 -- the state after the two statuses of the model of this name, its own and the solver's, were
--- written
+-- written; unchanged if the name is no model
 abbrev pub after_statuses : State → ℕ → ℕ → ℕ → State
 after_statuses state name model solver =
     with_symbol state name (with_content (symbol_of state name) (with_statuses (symbol_of state name).content model solver))

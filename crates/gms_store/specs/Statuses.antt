@@ -4,7 +4,9 @@ use Rattle.std.specs.Prelude.{ℕ, List, [], ◌∷◌, codes}
 use Rattle.gms_store.specs.declared.status.SolveStatus.{SolveStatus}
 use Rattle.gms_store.specs.declared.status.SolveStatus.TheVariants.{Unsolved, Optimal, Unbounded, Infeasible, Intermediate, Feasible, Unanswered}
 
--- the number of the model's status, `.modelstat`, after a solve that ended so
+-- the number of the model's status, `.modelstat`, after a solve that ended so, or before any solve
+-- (`Unsolved`). The limit of pivots ends a solve before a feasible point (`Intermediate`) or at one
+-- that is not optimal (`Feasible`). `Unanswered` means that the solver gave up
 abbrev pub model_number : SolveStatus → ℕ
 model_number Unsolved = 0
 model_number Optimal = 1
@@ -14,7 +16,9 @@ model_number Intermediate = 6
 model_number Feasible = 7
 model_number Unanswered = 13
 
--- the number of the solver's status, `.solvestat`, after a solve that ended so
+-- the number of the solver's status, `.solvestat`, after a solve that ended so, or before any solve
+-- (`Unsolved`). The limit of pivots ends a solve before a feasible point (`Intermediate`) or at one
+-- that is not optimal (`Feasible`). `Unanswered` means that the solver gave up
 abbrev pub solver_number : SolveStatus → ℕ
 solver_number Unsolved = 0
 solver_number Optimal = 1
@@ -24,7 +28,8 @@ solver_number Intermediate = 2
 solver_number Feasible = 2
 solver_number Unanswered = 4
 
--- the text of the model's status in a listing, after a solve that ended so
+-- the text of the model's status in a listing, after a solve that ended so, or before any solve
+-- (`Unsolved`)
 abbrev pub model_text : SolveStatus → List ℕ
 model_text Unsolved = codes "Not Solved"
 model_text Optimal = codes "Optimal"
@@ -34,7 +39,8 @@ model_text Intermediate = codes "Intermediate Infeasible"
 model_text Feasible = codes "Intermediate Nonoptimal"
 model_text Unanswered = codes "Error No Solution"
 
--- the text of the solver's status in a listing, after a solve that ended so
+-- the text of the solver's status in a listing, after a solve that ended so, or before any solve
+-- (`Unsolved`)
 abbrev pub solver_text : SolveStatus → List ℕ
 solver_text Unsolved = codes "Not Run"
 solver_text Optimal = codes "Normal Completion"
@@ -44,6 +50,8 @@ solver_text Intermediate = codes "Iteration Interrupt"
 solver_text Feasible = codes "Iteration Interrupt"
 solver_text Unanswered = codes "Terminated By Solver"
 
--- all ways in which a solve may end, and `Unsolved` before any
+-- all ways in which a solve may end, and `Unsolved` before any solve. The limit of pivots ends a
+-- solve before a feasible point (`Intermediate`) or at one that is not optimal (`Feasible`).
+-- `Unanswered` means that the solver gave up
 abbrev pub all_statuses : List SolveStatus
 all_statuses = Unsolved ∷ Optimal ∷ Unbounded ∷ Infeasible ∷ Intermediate ∷ Feasible ∷ Unanswered ∷ []

@@ -62,12 +62,14 @@ impl<F: ExactField> Store<F> {
         Ok(())
     }
 
-    /// Declares the name with the number `name` as `kind`. `domain` has the set of each position of
-    /// the name, `None` for a position that admits any label.
+    /// Declares the name with the number `name` as `kind`, without data. `domain` has the set of
+    /// each position of the name, `None` for a position that admits any label. If `domain` is
+    /// empty, a set has one position, which admits any label; any other name has no positions.
     ///
-    /// Of several declarations of one name the first counts, except that a later one may give a
-    /// type to a free variable (GAMS User's Guide, "Variables"). A number past the last name of the
-    /// program changes nothing. If out of memory, the state is unchanged.
+    /// A declaration of a declared name changes nothing, with one exception: a declaration of a
+    /// free variable as a variable gives it the type of `kind`, and removes its data (GAMS User's
+    /// Guide, "Variables"). A number past the last name of the program changes nothing. If out of
+    /// memory, the state is unchanged.
     pub fn declare(
         &mut self,
         alloc: Global,
@@ -87,9 +89,9 @@ impl<F: ExactField> Store<F> {
     }
 
     /// Declares an alias (GAMS User's Guide, "Set Definition", aliases): if one of the two names is
-    /// not declared and the other is a set, the undeclared name becomes an alias of the set. In any
-    /// other case, each of the two that is not declared becomes a set. If out of memory, the state
-    /// is unchanged, or only the name `first` is declared, as a set.
+    /// not declared and the other is a set or an alias of one, the undeclared name becomes an alias
+    /// of that set. In any other case, each of the two that is not declared becomes a set. If out
+    /// of memory, the state is unchanged, or only the name `first` is declared, as a set.
     pub fn declare_alias(
         &mut self,
         alloc: Global,
@@ -111,8 +113,8 @@ impl<F: ExactField> Store<F> {
         self.declare(alloc, DeclKind::Set, &[], second)
     }
 
-    /// Whether the name `new` can become an alias of the name `old`: `old` is a set, and `new` is
-    /// not declared.
+    /// Whether the name `new` can become an alias of the name `old`: `old` is a set or an alias of
+    /// one, and `new` is not declared.
     fn can_join(&self, old: u32, new: u32) -> bool
         ensures { result ≡ can_join self.now old new }
     {

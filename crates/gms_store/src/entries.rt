@@ -66,7 +66,8 @@ impl<X: Copy> Entries<X> {
         self.values.get_near(t, place)
     }
 
-    /// The tuples at which the map has a value, in the order of tuples.
+    /// The tuples at which the map has a value, in the order of tuples: by the numbers of the first
+    /// labels that differ.
     pub fn given(&self) -> &TupleSet
         ensures value { result.now ≡ finite.keys self.now }
         ensures ordered { IsOrdered result.now }

@@ -1,6 +1,6 @@
 //! The settings that options change.
 
-/// The settings of a run, each named as the option that sets it.
+/// The settings of a run, each named as the option that sets it; `option lp` sets `solver`.
 ///
 /// `option limrow = 0, solprint = off;` sets two of them. GAMS User's Guide, "The Option
 /// Statement".

@@ -26,11 +26,12 @@ use std::marker::Model;
 ///
 /// Names and labels are numbers, the indices in the two tables of the program. An alias denotes its
 /// set. An element without data has the value 0, or the level 0, the marginal 0 and the bounds of
-/// the variable's type; only entries that differ from these are stored. To read a name that the
-/// program does not have, or that is of another kind, is to read a name without data. To write to
-/// such a name, or at a tuple with another number of labels than the name has positions, changes
-/// nothing; a checked program does neither. If out of memory, the store is unchanged, except that
-/// `declare_act` and `declare_alias` may have declared some of their names.
+/// the variable's type, none for an equation; only entries that differ from these are stored. To
+/// read a name that the program does not have, or that is of another kind than what is read, is to
+/// read a name without data. To write to such a name, or at a tuple with another number of labels
+/// than the name has positions, changes nothing; a checked program has no such write. If out of
+/// memory, the store is unchanged, except that `declare_act` and `declare_alias` may have declared
+/// some of their names.
 pub struct Store<F: ExactField> {
     pub(crate) symbols: Vec<Symbol<F>>,
     settings: Settings,
@@ -92,7 +93,8 @@ impl<F: ExactField> Store<F> {
         })
     }
 
-    /// The kind that a name is declared as. For an alias this is a set.
+    /// The kind that a name is declared as. For an alias this is a set. It is `Undeclared` if no
+    /// declaration has the name.
     pub fn kind_of(&self, name: u32) -> SymbolKind
         ensures { result ≡ kind_in (symbol_at self.now name).content }
     {
@@ -123,23 +125,25 @@ impl<F: ExactField> Store<F> {
     }
 
     /// The domain of a name: for each position the number of the set whose labels it admits, `None`
-    /// for a position that admits any label. The domain of an alias is that of its set.
+    /// for a position that admits any label. The domain of an alias is that of its set. The domain
+    /// of a name that is not declared is empty.
     pub fn domain_of(&self, name: u32) -> &[Option<u32>]
         ensures { result.now ≡ (symbol_of self.now name).domain }
     {
         self.symbol(name).domain()
     }
 
-    /// The tuples of a name at which it has data, in the order of tuples: the members of a set; the
-    /// tuples at which the value of a parameter is not 0; the tuples at which the bounds, level or
-    /// marginal of a variable or an equation differ from those of an element without data.
+    /// The tuples of a name at which it has data: the members of a set; the tuples at which the
+    /// value of a parameter is not 0; the tuples at which the bounds, level or marginal of a
+    /// variable or an equation differ from those of an element without data; none for any other
+    /// name. They are in the order of tuples: by the numbers of the first labels that differ.
     pub fn given(&self, name: u32) -> &TupleSet
         ensures value { result.now ≡ given_of self.now name }
-        // A tuple is there exactly where its entry differs from an absent one.
+        // A tuple is in the set exactly if its data differ from those of an element without data.
         ensures differs { (t : List ℕ) → has result.now t ≡ differs_in (symbol_of self.now name).content t }
         ensures arity { (t : List ℕ) → has result.now t ≡ true → length t ≡ length (symbol_of self.now name).domain }
         ensures ordered { IsOrdered result.now }
-        // The numbers at each tuple are within the field's limit.
+        // Numerators and denominators at a tuple are at most the field's limit in magnitude.
         ensures fit { (t : List ℕ) → fits_at F.limit (symbol_of self.now name).content t ≡ true }
     {
         match self.symbol(name).given() {
@@ -172,7 +176,8 @@ impl<F: ExactField> Store<F> {
         }
     }
 
-    /// The members of a set, in the order of tuples. There are none if the name is no set.
+    /// The members of a set, in the order of tuples: by the numbers of the first labels that
+    /// differ. There are none if the name is no set.
     pub fn members(&self, set: u32) -> &TupleSet
         ensures value { result.now ≡ members_of self.now set }
         ensures ordered { IsOrdered result.now }
@@ -214,16 +219,17 @@ impl<F: ExactField> Store<F> {
         Ok(())
     }
 
-    /// The value of a parameter at a tuple: 0 if there are no data at the tuple.
+    /// The value of a parameter at a tuple: 0 if there are no data at the tuple, or the name is no
+    /// parameter.
     pub fn value(&self, name: u32, t: &Tuple) -> Ext<F>
         ensures { extended F.value result ≡ value_of self.now name t.now }
     {
         self.symbol(name).value(t)
     }
 
-    /// The value of a parameter at a tuple: 0 if there are no data at the tuple. `place` affects
-    /// speed only: the search is faster if it is the index, from 0, of the tuple among those with
-    /// data.
+    /// The value of a parameter at a tuple: 0 if there are no data at the tuple, or the name is no
+    /// parameter. `place` affects speed only: the search is faster if it is the index, from 0, of
+    /// the tuple among those with data.
     pub fn value_near(&self, name: u32, t: &Tuple, place: usize) -> Ext<F>
         ensures { extended F.value result ≡ value_of self.now name t.now }
     {
@@ -247,7 +253,8 @@ impl<F: ExactField> Store<F> {
 
     /// The bounds, the level and the marginal of a variable or an equation at a tuple. If there are
     /// no data at the tuple, the level and the marginal are 0, the bounds of a variable are those
-    /// of its type, and an equation has no bounds.
+    /// of its type, and an equation has no bounds. A name of another kind reads as an equation
+    /// without data.
     pub fn attributes(&self, name: u32, t: &Tuple) -> Attributes<F>
         ensures { attributes_shown F.value result ≡ attributes_of self.now name t.now }
     {
@@ -256,36 +263,43 @@ impl<F: ExactField> Store<F> {
 
     /// The bounds, the level and the marginal of a variable or an equation at a tuple. If there are
     /// no data at the tuple, the level and the marginal are 0, the bounds of a variable are those
-    /// of its type, and an equation has no bounds. `place` affects speed only: the search is faster
-    /// if it is the index, from 0, of the tuple among those with data.
+    /// of its type, and an equation has no bounds. A name of another kind reads as an equation
+    /// without data. `place` affects speed only: the search is faster if it is the index, from 0,
+    /// of the tuple among those with data.
     pub fn attributes_near(&self, name: u32, t: &Tuple, place: usize) -> Attributes<F>
         ensures { attributes_shown F.value result ≡ attributes_of self.now name t.now }
     {
         self.symbol(name).attributes_near(t, place)
     }
 
-    /// The lower bound of a variable or an equation at a tuple; `None` if it is minus infinity.
+    /// The lower bound of a variable or an equation at a tuple; `None` if it is minus infinity. If
+    /// there are no data at the tuple, it is that of the variable's type, and `None` for an
+    /// equation. It is `None` for a name of another kind.
     pub fn lower(&self, name: u32, t: &Tuple) -> Option<F>
         ensures { option_map F.value result ≡ (attributes_of self.now name t.now).lower }
     {
         self.attributes(name, t).lower
     }
 
-    /// The upper bound of a variable or an equation at a tuple; `None` if it is infinity.
+    /// The upper bound of a variable or an equation at a tuple; `None` if it is infinity. If there
+    /// are no data at the tuple, it is that of the variable's type, and `None` for an equation. It
+    /// is `None` for a name of another kind.
     pub fn upper(&self, name: u32, t: &Tuple) -> Option<F>
         ensures { option_map F.value result ≡ (attributes_of self.now name t.now).upper }
     {
         self.attributes(name, t).upper
     }
 
-    /// The level of a variable or an equation at a tuple; 0 if there are no data at the tuple.
+    /// The level of a variable or an equation at a tuple; 0 if there are no data at the tuple, or
+    /// the name is of another kind.
     pub fn level(&self, name: u32, t: &Tuple) -> F
         ensures { F.value result ≡ (attributes_of self.now name t.now).level }
     {
         self.attributes(name, t).level
     }
 
-    /// The marginal of a variable or an equation at a tuple; 0 if there are no data at the tuple.
+    /// The marginal of a variable or an equation at a tuple; 0 if there are no data at the tuple,
+    /// or the name is of another kind.
     pub fn marginal(&self, name: u32, t: &Tuple) -> F
         ensures { F.value result ≡ (attributes_of self.now name t.now).marginal }
     {
@@ -405,7 +419,8 @@ impl<F: ExactField> Store<F> {
         }
     }
 
-    /// The settings of the run: those at its start, or those that were last put in their place.
+    /// The settings of the run, which `option` statements change (`limrow`, `iterlim` and others):
+    /// those at its start, or those that were last put in their place.
     pub fn settings(&self) -> Settings
         ensures { result ≡ self.now.settings }
     {

@@ -143,8 +143,9 @@ impl<F: ExactField> Symbol<F> {
     }
 
     /// Declares the symbol's name with this kind and domain. A symbol that is declared already is
-    /// unchanged, except that the declaration may give a type to a free variable. If out of memory,
-    /// the symbol is unchanged.
+    /// unchanged, with one exception: a variable of the type `Free` that is declared as a variable
+    /// again gets the type of this kind, and loses its data. If out of memory, the symbol is
+    /// unchanged.
     pub fn declare(
         &mut self,
         alloc: Global,
@@ -187,7 +188,8 @@ impl<F: ExactField> Symbol<F> {
         }
     }
 
-    /// The kind that the symbol's name is declared as. For an alias this is a set.
+    /// The kind that the symbol's name is declared as. For an alias this is a set, and without a
+    /// declaration `Undeclared`.
     pub fn kind(&self) -> SymbolKind
         ensures { result ≡ kind_in self.now.content }
     {
@@ -221,9 +223,12 @@ impl<F: ExactField> Symbol<F> {
         self.domain.as_slice()
     }
 
-    /// The tuples at which the symbol has data, in the order of tuples: the members of a set, or
-    /// the tuples at which a parameter, a variable or an equation differs from an element without
-    /// data. `None` if the symbol is of a kind without tuples: not declared, an alias or a model.
+    /// The tuples at which the symbol has data, in the order of tuples, by the first label that
+    /// differs: the members of a set, or the tuples at which a parameter, a variable or an equation
+    /// differs from an element without data. `None` if the symbol is of a kind without tuples: not
+    /// declared, an alias or a model. Of each tuple with data, the number of labels is that of the
+    /// symbol's positions, and no element is stored that equals one without data (`kept`). The
+    /// numbers at each tuple are within the limit of the field `F` (`fit`).
     pub fn given(&self) -> Option<&TupleSet>
         ensures some { IfSome result (λ set. set.now ≡ given_in self.now.content) }
         ensures none { IfNone result (given_in self.now.content ≡ []) }
@@ -243,8 +248,8 @@ impl<F: ExactField> Symbol<F> {
         }
     }
 
-    /// The members of a set, in the order of tuples. `None` if the symbol is no set; an alias is
-    /// none.
+    /// The members of a set, in the order of tuples, by the first label that differs. `None` if the
+    /// symbol is no set; an alias is none.
     pub fn members(&self) -> Option<&TupleSet>
         ensures some { IfSome result (λ set. set.now ≡ members_in self.now.content) }
         ensures none { IfNone result (members_in self.now.content ≡ []) }
@@ -259,7 +264,8 @@ impl<F: ExactField> Symbol<F> {
         }
     }
 
-    /// The value of a parameter at a tuple: 0 if there are no data at the tuple.
+    /// The value of a parameter at a tuple: 0 if there are no data at the tuple, or if the symbol
+    /// is no parameter.
     pub fn value(&self, t: &Tuple) -> Ext<F>
         ensures { extended F.value result ≡ value_in self.now.content t.now }
     {
@@ -270,9 +276,9 @@ impl<F: ExactField> Symbol<F> {
         }
     }
 
-    /// The value of a parameter at a tuple: 0 if there are no data at the tuple. `place` affects
-    /// speed only: the search is faster if it is the index, from 0, of the tuple among those with
-    /// data.
+    /// The value of a parameter at a tuple: 0 if there are no data at the tuple, or if the symbol
+    /// is no parameter. `place` affects speed only: the search is faster if it is the index, from
+    /// 0, of the tuple among those with data.
     pub fn value_near(&self, t: &Tuple, place: usize) -> Ext<F>
         ensures { extended F.value result ≡ value_in self.now.content t.now }
     {
@@ -283,8 +289,10 @@ impl<F: ExactField> Symbol<F> {
         }
     }
 
-    /// The bounds, the level and the marginal of a variable or an equation at a tuple: those of an
-    /// element without data if there are no data at the tuple.
+    /// The bounds, the level and the marginal of a variable or an equation at a tuple. If there are
+    /// no data at the tuple, the level and the marginal are 0, the bounds of a variable are those
+    /// of its type, and an equation has no bounds. For a symbol of another kind both numbers are 0,
+    /// and there are no bounds.
     pub fn attributes(&self, t: &Tuple) -> Attributes<F>
         ensures { attributes_shown F.value result ≡ attributes_in self.now.content t.now }
     {
@@ -297,9 +305,11 @@ impl<F: ExactField> Symbol<F> {
         }
     }
 
-    /// The bounds, the level and the marginal of a variable or an equation at a tuple: those of an
-    /// element without data if there are no data at the tuple. `place` affects speed only: the
-    /// search is faster if it is the index, from 0, of the tuple among those with data.
+    /// The bounds, the level and the marginal of a variable or an equation at a tuple. If there are
+    /// no data at the tuple, the level and the marginal are 0, the bounds of a variable are those
+    /// of its type, and an equation has no bounds. For a symbol of another kind both numbers are 0,
+    /// and there are no bounds. `place` affects speed only: the search is faster if it is the
+    /// index, from 0, of the tuple among those with data.
     pub fn attributes_near(&self, t: &Tuple, place: usize) -> Attributes<F>
         ensures { attributes_shown F.value result ≡ attributes_in self.now.content t.now }
     {

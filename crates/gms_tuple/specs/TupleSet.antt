@@ -40,6 +40,6 @@ count_with members prefix = count_by (λ member. begins_with member prefix) memb
 abbrev pub is_within : Bool → List ℕ → List ℕ → Bool
 is_within through prefix member = is_before member prefix || (through && begins_with member prefix)
 
--- the members that begin with the labels of `prefix`, in order
+-- the members that begin with the labels of `prefix`, in the order of the list of members
 abbrev pub those_with : List (List ℕ) → List ℕ → List (List ℕ)
 those_with members prefix = filter (λ member. begins_with member prefix) members

@@ -14,8 +14,8 @@ const MOST_BEHIND: usize = 64;
 
 /// A list of tuples, stored as a tree and the vector `following` of the tuples after it. A tuple is
 /// reached, inserted and removed by its index, in logarithmic time. An appended tuple needs no
-/// search: it is pushed to `following`, whose tuples move into the tree once there are
-/// `MOST_BEHIND` of them.
+/// search: it is pushed to `following`, whose tuples move into the tree once there are 64 of them
+/// (`MOST_BEHIND`).
 pub struct Line {
     tree: Tree,
     following: Vec<Tuple>,
@@ -72,8 +72,9 @@ impl Line {
         }
     }
 
-    /// How many tuples of this list, which is required to be ordered, come before `t`. If
-    /// `through`, the tuples that begin with all labels of `t` are counted as well.
+    /// How many tuples of this list come before `t` in the order of tuples: label by label, a
+    /// proper prefix first. If `through`, the tuples that begin with all labels of `t` are counted
+    /// as well. The list is required to be in this order, without repetition.
     pub fn count(&self, t: &Tuple, through: bool) -> usize
         requires { IsOrdered self.now }
         ensures { result ≡ count_by (is_within through t.now) self.now }
@@ -134,7 +135,7 @@ impl Line {
         }
     }
 
-    /// A copy of the list.
+    /// A copy of the list. The error is out of memory.
     pub fn copy(&self, alloc: Global) -> Result<Line, AllocError>
         ensures { IfOk result (λ copy. copy ≡ self.now) }
     {

@@ -34,7 +34,8 @@ impl Operation {
 }
 
 /// The tuples of the set that results from an operation on the sets `first` and `second`. All three
-/// sets are given by their tuples, distinct and in the order of tuples. The error is out of memory.
+/// sets are given by their tuples, distinct and in the order of tuples (label by label, a proper
+/// prefix first). The error is out of memory.
 pub fn combined(
     alloc: Global,
     operation: Operation,

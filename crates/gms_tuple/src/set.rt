@@ -11,7 +11,7 @@ use std::alloc::{AllocError, Global};
 use std::marker::Model;
 
 /// A set of tuples. Contracts view it as the list of its members: distinct, and in the order of
-/// tuples.
+/// tuples (label by label, a proper prefix first).
 ///
 /// A member is found by its labels or its index, and inserted and removed by its labels, in
 /// logarithmic time. A tuple that comes after all members is inserted without a search.
@@ -187,7 +187,7 @@ impl TupleSet {
         self.combined(alloc, Operation::Intersection, o)
     }
 
-    /// A copy of the set.
+    /// A copy of the set. The error is out of memory.
     pub fn copy(&self, alloc: Global) -> Result<TupleSet, AllocError>
         ensures value { IfOk result (λ copy. copy ≡ self.now) }
         ensures ordered { IsOrdered self.now }

@@ -16,8 +16,9 @@ use std::mem;
 const MOST_OWN: usize = 64;
 
 /// A list of tuples, stored as a binary tree. A tuple is reached, inserted and removed by its
-/// index, in time proportional to the depth of the tree. No side of a fork is more than about three
-/// times as long as the other, so the depth is logarithmic in the number of tuples.
+/// index, in time proportional to the depth of the tree. Neither side of a fork, which is an inner
+/// node, has more than about three times as many tuples as the other, so the depth is logarithmic
+/// in the number of tuples.
 #[cycle(tree)]
 #[derive(Drop)]
 pub struct Tree {
@@ -124,8 +125,9 @@ impl Tree {
         }
     }
 
-    /// How many tuples of this list, which is required to be ordered, come before `t`. If
-    /// `through`, the tuples that begin with all labels of `t` are counted as well.
+    /// How many tuples of this tree come before `t` in the order of tuples: label by label, a
+    /// proper prefix first. If `through`, the tuples that begin with all labels of `t` are counted
+    /// as well. The tree is required to be in this order, without repetition.
     pub fn count(&self, t: &Tuple, through: bool) -> usize
         requires { IsOrdered self.now }
         ensures { result ≡ count_by (is_within through t.now) self.now }

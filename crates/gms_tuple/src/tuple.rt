@@ -64,7 +64,7 @@ impl Tuple {
         Ok(())
     }
 
-    /// A copy of the tuple.
+    /// A copy of the tuple. The error is out of memory.
     pub fn copy(&self, alloc: Global) -> Result<Tuple, AllocError>
         ensures { IfOk result (λ copy. copy ≡ self.now) }
     {

@@ -1,4 +1,4 @@
-use Rattle.std.proofs.Common.{◌≡◌, ◌∙◌, ◌+◌, ◌≤◌, true, false, not, ◌||◌, List, ℕ, length, drop, Option, ap, sym, refl, rules, arith}
+use Rattle.std.proofs.Common.{◌≡◌, ◌∙◌, ◌+◌, true, false, not, ◌||◌, drop, ap, sym, rules}
 use Rattle.std.proofs.lemmas.List.{drop_all}
 use Rattle.gms_scope.specs.Facts.{names}
 use Rattle.gms_scope.specs.Names.{positions}

@@ -1,5 +1,4 @@
-use Rattle.std.proofs.Common.{◌≡◌, ◌==◌, not, drop, take, ℕ}
-use Rattle.std.specs.List.{list_any}
+use Rattle.std.proofs.Common.{◌≡◌, drop}
 use Rattle.gms_scope.specs.Entries.{above_of}
 use Rattle.gms_scope.specs.Facts.{names}
 use Rattle.gms_scope.specs.Names.{positions}

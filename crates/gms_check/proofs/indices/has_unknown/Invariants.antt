@@ -1,4 +1,4 @@
-use Rattle.std.proofs.Common.{◌≡◌, ◌==◌, not, drop, take, ℕ}
+use Rattle.std.proofs.Common.{◌≡◌, drop}
 use Rattle.std.specs.List.{list_any}
 use Rattle.gms_scope.specs.Names.{has_no_declaration}
 use Rattle.gms_check.proofs.indices.has_unknown.Given as goal

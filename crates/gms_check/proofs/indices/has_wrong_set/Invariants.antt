@@ -1,4 +1,4 @@
-use Rattle.std.proofs.Common.{◌≡◌, ◌==◌, not, drop, take, ℕ}
+use Rattle.std.proofs.Common.{◌≡◌, not, drop}
 use Rattle.std.specs.List.{list_any}
 use Rattle.gms_scope.specs.Names.{is_index_set}
 use Rattle.gms_check.proofs.indices.has_wrong_set.Given as goal

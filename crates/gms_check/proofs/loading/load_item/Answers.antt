@@ -1,4 +1,4 @@
-use Rattle.std.proofs.Common.{◌≡◌, ◌∙◌, ap, sym, List, Option, Result}
+use Rattle.std.proofs.Common.{◌∙◌, ap, sym, List, Option, Result}
 use Rattle.std.proofs.lemmas.Result.{on_ok_weaker}
 use Rattle.gms_set.specs.declared.fault.SetFault.{SetFault}
 use Rattle.gms_set.specs.Expansion.{ExpandedData}

@@ -1,6 +1,4 @@
 use Rattle.std.proofs.Common.{◌≡◌, take}
-use Rattle.gms_store.specs.State.{given_of}
-use Rattle.gms_scope.specs.Data.{with_no_data}
 use Rattle.gms_scope.proofs.Empties.{without}
 use Rattle.gms_scope.proofs.data.take_out_data.Given as goal
 

@@ -1,4 +1,4 @@
-use Rattle.std.proofs.Common.{◌≡◌, ℕ, ◌+◌, ◌*◌, ◌<◌, ◌∙◌, ap, sym, map, arith}
+use Rattle.std.proofs.Common.{◌≡◌, ◌+◌, ◌*◌, ◌<◌, ◌∙◌, ap, sym, map, arith}
 use denote.Param.Weighed.{most}
 use Rattle.gms_ast.specs.declared.program.Stmt.{size-Stmt}
 use Rattle.std.specs.Prelude.{flat_map}

@@ -1,5 +1,5 @@
 -- Its number and its text each determine how a solve may end.
-use Rattle.std.proofs.Common.{◌≡◌, ℕ, ◌≤◌, List, [], ◌∷◌, ◌==◌, if◌then◌else◌, get_or, length, refl, sym, ap, ◌∙◌, arith}
+use Rattle.std.proofs.Common.{◌≡◌, ℕ, ◌≤◌, List, [], ◌==◌, if◌then◌else◌, get_or, length, refl, sym, ap, ◌∙◌, arith}
 use Rattle.gms_store.specs.declared.status.SolveStatus.{SolveStatus}
 use Rattle.gms_store.specs.declared.status.SolveStatus.TheVariants.{Unsolved, Optimal, Unbounded, Infeasible, Intermediate, Feasible, Unanswered}
 use Rattle.gms_store.specs.Statuses.{model_number, model_text, solver_number}

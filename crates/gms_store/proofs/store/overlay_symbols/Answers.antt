@@ -1,4 +1,4 @@
-use Rattle.std.proofs.Common.{◌∙◌, ap, sym, subst, set, get_or, arith}
+use Rattle.std.proofs.Common.{◌∙◌, ap, sym, subst, set, arith}
 use Rattle.gms_store.proofs.Overlays.{IsRest, chosen-at, overlaid-first, overlaid-more, overlaid-past, overlaid-all, rest-first, rest-more, rest-less}
 use Rattle.gms_store.proofs.store.overlay_symbols.Goals as goal
 use Rattle.gms_store.proofs.store.overlay_symbols.Goals.{then-name-symbols, else-name-symbols}

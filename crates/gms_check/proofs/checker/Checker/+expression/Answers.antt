@@ -1,4 +1,4 @@
-use Rattle.std.proofs.Common.{◌≡◌, ◌∙◌, ◌+◌, ◌*◌, ◌<◌, max, ◌||◌, ◌++◌, ◌∷◌, [], ◌&&◌, not, ap, sym, refl, Bool, List, ℕ, Some, length, map, take, if◌then◌else◌, subst, rules, arith}
+use Rattle.std.proofs.Common.{◌≡◌, ◌∙◌, ◌||◌, ◌++◌, ◌∷◌, [], ◌&&◌, not, ap, sym, refl, Bool, List, ℕ, length, map, take, if◌then◌else◌, subst, rules}
 use Rattle.std.specs.Prelude.{flat_map, IfOk, OnOk}
 use Rattle.std.specs.List.{list_any}
 use Rattle.std.proofs.lemmas.List.{take_all}

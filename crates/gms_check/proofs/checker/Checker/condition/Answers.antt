@@ -1,4 +1,4 @@
-use Rattle.std.proofs.Common.{◌≡◌, ◌∙◌, ap, sym, Option}
+use Rattle.std.proofs.Common.{◌∙◌, ap, sym, Option}
 use Rattle.std.specs.Prelude.{option_map}
 use Rattle.gms_ast.specs.declared.expression.Expr.{Expr}
 use Rattle.gms_ast.specs.TreeView.{tree_of}

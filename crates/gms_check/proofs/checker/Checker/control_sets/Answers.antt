@@ -1,4 +1,4 @@
-use Rattle.std.proofs.Common.{◌≡◌, ◌∙◌, ap, refl, ℕ, length, [], ◌∷◌, not}
+use Rattle.std.proofs.Common.{◌∙◌, ap, refl, ℕ, length, [], ◌∷◌, not}
 use Rattle.std.specs.Prelude.{nat_lt}
 use Rattle.std.specs.List.{list_any}
 use Rattle.gms_scope.specs.Names.{is_index_set, has_no_declaration}

@@ -1,5 +1,5 @@
-use Rattle.std.proofs.Common.{◌≡◌, ◌∙◌, ap, sym, refl, Bool, true, map, [], ◌∷◌, not, ◌&&◌, ◌||◌}
-use Rattle.gms_check.specs.InnerChecking.{Checking, faulted, first_fault, known_of, seen}
+use Rattle.std.proofs.Common.{◌≡◌, ◌∙◌, ap, refl, true, map, [], ◌∷◌}
+use Rattle.gms_check.specs.InnerChecking.{faulted, first_fault, known_of, seen}
 use Rattle.gms_labels.specs.declared.place.Place.{Place}
 use Rattle.gms_set.specs.declared.fault.SetError.{SetError}
 use Rattle.gms_set.specs.declared.fault.SetError.TheVariants.{BadRange, Repeated, Outside, Full}

@@ -1,4 +1,4 @@
-use Rattle.std.proofs.Common.{◌≡◌, ◌∙◌, ap, sym, get_or, Option, Some, None}
+use Rattle.std.proofs.Common.{◌≡◌, ◌∙◌, ap, sym, get_or, Option, None}
 use Rattle.std.proofs.lemmas.List.{get_or_default}
 use Rattle.gms_ast.specs.declared.word.Named.{Named}
 use Rattle.gms_check.specs.InnerChecking.{noted, seen}

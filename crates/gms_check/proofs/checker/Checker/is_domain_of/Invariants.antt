@@ -1,4 +1,4 @@
-use Rattle.std.proofs.Common.{◌≡◌, drop, length}
+use Rattle.std.proofs.Common.{◌≡◌, drop}
 use Rattle.gms_store.specs.Declarations.{names_of}
 use Rattle.gms_scope.specs.Names.{positions}
 use Rattle.gms_check.specs.Names.{same_domain}

@@ -1,4 +1,4 @@
-use Rattle.std.proofs.Common.{◌≡◌, [], ◌∷◌, option_map}
+use Rattle.std.proofs.Common.{[], ◌∷◌, option_map}
 use Rattle.std.proofs.lemmas.Result.{on_ok_weaker}
 use Rattle.gms_ast.specs.TreeView.{tree_of}
 use Rattle.gms_check.specs.InnerChecking.{seen}

@@ -1,4 +1,4 @@
-use Rattle.std.proofs.Common.{◌≡◌, ◌∙◌, ◌+◌, ap, sym, take, get_or, map, Bool, List, ℕ, [], ◌∷◌, ◌++◌, true, false, if◌then◌else◌}
+use Rattle.std.proofs.Common.{◌≡◌, ◌∙◌, ap, sym, take, get_or, Bool, List, ℕ, [], ◌∷◌, ◌++◌, true, false, if◌then◌else◌}
 use Rattle.std.proofs.lemmas.List.{map-append, take_all, take_more}
 use Rattle.std.proofs.lemmas.Result.{on_ok_weaker}
 use Rattle.gms_ast.specs.declared.word.Named.{Named}

@@ -1,4 +1,4 @@
-use Rattle.std.proofs.Common.{◌≡◌, ◌∙◌, ap, get_or, List, map, [], ◌∷◌}
+use Rattle.std.proofs.Common.{◌∙◌, ap, get_or, List, map, [], ◌∷◌}
 use Rattle.std.proofs.lemmas.List.{get_or_default, take_all}
 use Rattle.gms_ast.specs.declared.word.Named.{Named}
 use Rattle.gms_check.specs.InnerChecking.{noted, seen}

@@ -1,10 +1,10 @@
-use Rattle.std.proofs.Common.{◌≡◌, ◌∙◌, ap, sym, Bool, List, ℕ, length, [], ◌∷◌, not, ◌||◌}
+use Rattle.std.proofs.Common.{◌≡◌, ◌∙◌, ap, sym, ℕ, length, [], ◌∷◌, not, ◌||◌}
 use Rattle.std.specs.List.{list_any}
 use Rattle.gms_scope.specs.Facts.{is_known_ordered}
 use Rattle.gms_scope.specs.Names.{is_index_set, has_no_declaration, positions}
-use Rattle.gms_check.specs.InnerChecking.{faulted, known_of, seen}
+use Rattle.gms_check.specs.InnerChecking.{faulted, seen}
 use Rattle.gms_check.specs.Controls.{lagged_sets}
-use Rattle.gms_check.specs.Domains.{has_unfit_label, has_unfit_set, index_count, is_wrong_count}
+use Rattle.gms_check.specs.Domains.{index_count, is_wrong_count}
 use Rattle.gms_check.specs.StatementUses.{index_list}
 use Rattle.gms_check.specs.Uses.{index_sets}
 use Rattle.gms_check.specs.declared.error.ErrorKind.TheVariants.{UnknownName, WrongKind, WrongArity, DomainOfSet, DomainOfLabel, NotOrdered}

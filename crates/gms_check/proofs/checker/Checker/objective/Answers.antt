@@ -1,5 +1,5 @@
-use Rattle.std.proofs.Common.{◌≡◌, ◌∙◌, ap, sym, refl, Bool, List, length, arith, ◌==◌, [], ◌∷◌, not, ◌&&◌, ◌||◌}
-use Rattle.gms_check.specs.InnerChecking.{Checking, faulted, seen}
+use Rattle.std.proofs.Common.{◌≡◌, ◌∙◌, ap, sym, refl, List, length, arith, ◌==◌, [], ◌∷◌, not, ◌&&◌}
+use Rattle.gms_check.specs.InnerChecking.{faulted, seen}
 use Rattle.std.proofs.lemmas.Bool.Decides.{nat_tests}
 use Rattle.gms_store.specs.State.{State, symbol_at}
 use Rattle.gms_store.specs.Declarations.{is_free}

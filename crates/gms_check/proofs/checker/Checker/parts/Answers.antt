@@ -1,4 +1,4 @@
-use Rattle.std.proofs.Common.{◌≡◌, ◌∙◌, ap, refl, length, [], ◌∷◌, not}
+use Rattle.std.proofs.Common.{◌∙◌, ap, refl, length, [], ◌∷◌}
 use Rattle.gms_ast.specs.declared.declaration.Item.{Item}
 use Rattle.gms_check.specs.InnerChecking.{faulted, seen}
 use Rattle.gms_check.specs.Domains.{is_wrong_count}

@@ -1,4 +1,4 @@
-use Rattle.std.proofs.Common.{◌≡◌, ◌∙◌, ◌+◌, ap, sym, Bool, List, ℕ, get_or, drop, [], ◌∷◌, ◌++◌, ◌||◌}
+use Rattle.std.proofs.Common.{◌≡◌, ◌∙◌, ◌+◌, ap, sym, List, ℕ, get_or, drop, [], ◌∷◌, ◌++◌, ◌||◌}
 use Rattle.std.proofs.Math.Bool.{or_assoc}
 use Rattle.std.proofs.lemmas.List.{at_drop_more}
 use Rattle.gms_check.specs.InnerChecking.{seen}

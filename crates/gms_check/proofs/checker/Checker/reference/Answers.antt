@@ -1,4 +1,4 @@
-use Rattle.std.proofs.Common.{◌≡◌, ◌∙◌, ap, sym, List, ℕ, length, [], ◌∷◌, ◌++◌, not, ◌&&◌, ◌||◌}
+use Rattle.std.proofs.Common.{◌≡◌, ◌∙◌, ap, ℕ, length, [], ◌∷◌, ◌++◌, not, ◌&&◌, ◌||◌}
 use Rattle.std.specs.List.{list_any}
 use Rattle.gms_scope.specs.Names.{has_no_declaration, declared_kind, positions}
 use Rattle.gms_check.specs.InnerChecking.{faulted, known_of, seen}

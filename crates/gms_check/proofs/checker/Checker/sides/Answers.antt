@@ -1,4 +1,4 @@
-use Rattle.std.proofs.Common.{◌≡◌, ap, List, ℕ}
+use Rattle.std.proofs.Common.{ap, List, ℕ}
 use Rattle.gms_ast.specs.TreeView.{tree_of}
 use Rattle.gms_check.specs.InnerChecking.{seen, with_sets}
 use Rattle.gms_check.specs.Contexts.{as_side}

@@ -1,5 +1,5 @@
-use Rattle.std.proofs.Common.{◌≡◌, ◌∙◌, ap, sym, refl, Bool, [], ◌∷◌, not, ◌&&◌, ◌||◌}
-use Rattle.gms_check.specs.InnerChecking.{Checking, faulted, seen}
+use Rattle.std.proofs.Common.{◌∙◌, ap, [], ◌∷◌, not}
+use Rattle.gms_check.specs.InnerChecking.{faulted, seen}
 use Rattle.gms_scope.specs.Facts.{Facts, has_undefined}
 use Rattle.gms_scope.specs.Names.{is_model, has_no_declaration, declared_kind}
 use Rattle.gms_check.specs.declared.error.ErrorKind.TheVariants.{UnknownName, WrongKind, NotDefined}

@@ -1,4 +1,4 @@
-use Rattle.std.proofs.Common.{◌≡◌, ◌∙◌, ap, sym, List, [], ℕ, Option, None}
+use Rattle.std.proofs.Common.{◌∙◌, ap, sym, List, [], ℕ, Option, None}
 use Rattle.std.specs.Prelude.{is_none}
 use Rattle.gms_check.specs.declared.error.CompileError.{CompileError}
 use Rattle.gms_check.specs.InnerChanges.{facts_after}

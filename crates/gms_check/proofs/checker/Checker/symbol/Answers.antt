@@ -1,5 +1,5 @@
-use Rattle.std.proofs.Common.{◌≡◌, ◌∙◌, ap, sym, refl, Bool, [], ◌∷◌, not, ◌&&◌, ◌||◌}
-use Rattle.gms_check.specs.InnerChecking.{Checking, faulted, known_of, seen}
+use Rattle.std.proofs.Common.{◌∙◌, ap, [], ◌∷◌, not}
+use Rattle.gms_check.specs.InnerChecking.{faulted, known_of, seen}
 use Rattle.gms_scope.specs.Names.{has_no_declaration, declared_kind}
 use Rattle.gms_check.specs.declared.error.ErrorKind.TheVariants.{UnknownName, WrongKind, Endogenous}
 use Rattle.gms_check.specs.Linearity.{is_variable_by}

@@ -1,4 +1,4 @@
-use Rattle.std.proofs.Common.{◌≡◌, ◌∙◌, ap, refl, List, [], ◌∷◌}
+use Rattle.std.proofs.Common.{◌≡◌, ◌∙◌, ap, refl, List, []}
 use Rattle.gms_ast.specs.declared.expression.Index.{Index}
 use Rattle.gms_scope.specs.Names.{declared_kind}
 use Rattle.gms_check.specs.InnerChecking.{faulted, known_of, seen}

@@ -1,4 +1,4 @@
-use Rattle.std.proofs.Common.{◌≡◌, ◌∙◌, sym, ap, subst, List, ℕ, length, false, replicate}
+use Rattle.std.proofs.Common.{◌≡◌, ◌∙◌, sym, ap, subst, length}
 use Rattle.std.proofs.lemmas.List.{length-replicate}
 use Rattle.gms_scope.specs.Models.{AreCounted}
 use Rattle.gms_scope.proofs.known.Known.new.Goals as goal

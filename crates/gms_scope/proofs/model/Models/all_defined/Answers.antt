@@ -3,7 +3,7 @@ use Rattle.std.specs.List.{list_any}
 use Rattle.std.specs.Prelude.{slice_index_or}
 use Rattle.gms_scope.specs.declared.model.Model.{Model}
 use Rattle.gms_scope.specs.Facts.{is_missing}
-use Rattle.gms_scope.specs.Models.{AreAllThere, AreCounted, equations_within, model_at, model_names, models_within}
+use Rattle.gms_scope.specs.Models.{AreAllThere, AreCounted, model_names, models_within}
 use Rattle.gms_scope.specs.Order.{order_of}
 use Rattle.gms_scope.proofs.Orders.{order-most}
 use Rattle.gms_scope.proofs.Listed.{counted-set, equations-at, equations-none, model_names-length, models-set, names-set, there-set}

@@ -1,4 +1,4 @@
-use Rattle.std.proofs.Common.{◌≡◌, ◌∙◌, ap, sym, subst}
+use Rattle.std.proofs.Common.{◌∙◌, ap, sym, subst}
 use Rattle.gms_scope.specs.Models.{AreAllThere, AreCounted, models_within}
 use Rattle.gms_scope.proofs.Listed.{counted-more, models-more, there-more}
 use Rattle.gms_scope.proofs.model.Models.declare_equation.Goals as goal

@@ -1,5 +1,4 @@
-use Rattle.std.proofs.Common.{◌∙◌, ◌-◌, sym, length}
-use Rattle.gms_scope.specs.Order.{names_of_nodes}
+use Rattle.std.proofs.Common.{◌∙◌, sym, length}
 use Rattle.gms_scope.proofs.Orders.{order-there}
 use Rattle.gms_scope.proofs.Belows.{below-none, below-places, none-below}
 use Rattle.gms_scope.proofs.order.Order.is_below.Goals as goal

@@ -1,4 +1,4 @@
-use Rattle.std.proofs.Common.{◌≡◌, ◌<◌, ◌-◌, ◌≤◌, ◌∙◌, ap, sym, length, arith}
+use Rattle.std.proofs.Common.{◌<◌, ◌-◌, ◌∙◌, ap, sym, length, arith}
 use Rattle.gms_scope.specs.Entries.{among}
 use Rattle.gms_scope.specs.Order.{entries_of_nodes}
 use Rattle.gms_scope.proofs.Orders.{order-there}

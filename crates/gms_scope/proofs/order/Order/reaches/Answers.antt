@@ -1,4 +1,4 @@
-use Rattle.std.proofs.Common.{◌≡◌, ◌∙◌, sym, subst, ◌≤◌}
+use Rattle.std.proofs.Common.{◌∙◌, sym, subst, ◌≤◌}
 use Rattle.gms_scope.specs.declared.order.Node.{Node}
 use Rattle.gms_scope.specs.Order.{node_at}
 use Rattle.gms_scope.proofs.Ways.{under-end, under-there}

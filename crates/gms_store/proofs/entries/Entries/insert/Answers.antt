@@ -1,5 +1,5 @@
 use Rattle.std.proofs.lemmas.Bool.{not-false, not-true}
-use Rattle.std.proofs.Common.{◌≡◌, ◌∙◌, ap, sym, not, true, false}
+use Rattle.std.proofs.Common.{◌∙◌, ap, sym, not, true, false}
 use Rattle.std.specs.FinMap as finite
 use Rattle.gms_tuple.specs.TupleSet.{has, inserted}
 use Rattle.gms_store.proofs.Parts.{keys-insert, keys-back, keys-known}

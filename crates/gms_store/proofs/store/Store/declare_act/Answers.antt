@@ -1,4 +1,4 @@
-use Rattle.std.proofs.Common.{◌≡◌, ◌⊎◌, inl, inr, ℕ, OnErr, Result, Ok, Err, sym, ap, ◌∙◌}
+use Rattle.std.proofs.Common.{inl, inr, OnErr, Result, Ok, Err, sym, ap, ◌∙◌}
 use Rattle.gms_store.specs.Declarations.{declared_first}
 use Rattle.gms_store.proofs.store.Store.declare_act.Goals as goal
 
