@@ -3,8 +3,9 @@ use Rattle.std.specs.Prelude.{◌≡◌, ◌⊎◌, ℕ, ◌<◌, ◌≤◌, Opt
 use Rattle.lp_core.specs.Dictionary.{Dictionary, Improves}
 use Rattle.lp_any.specs.declared.costs.Candidate.{Candidate}
 
--- Variable q is the cheapest: it improves, no improving variable costs less, and of those with the
--- same cost it has the smallest number. `Costs` says what a variable costs at a dictionary.
+-- Variable q is the cheapest at the dictionary d: it improves and has the cost `cost`. Each
+-- improving variable v has a cost that is not less; if that cost is equal, q is at most v.
+-- `Costs d v n` says that n is a cost of v at d.
 pub record IsCheapest (Costs : Dictionary → ℕ → ℕ → Type 0) (d : Dictionary) (q : ℕ) : Type 0 where
   pub improves : Improves d q
   pub cost : ℕ

@@ -16,7 +16,7 @@ use Rattle.lp_any.specs.Shuffles.{ShuffledAt}
 use Rattle.lp_any.specs.declared.members.Member.{Member}
 use Rattle.lp_any.specs.declared.members.Member.TheVariants as member
 
--- how many rules are tried at most, the shuffles included
+-- how many rules for the entering variable are tried at most, the shuffles included
 abbrev pub rule_count : ℕ
 rule_count = 23
 
@@ -33,9 +33,11 @@ rule_at place =
     rule_after (member.Steepest ∷ member.Shortest ∷ member.GainForBits ∷ member.ShortInRow ∷ member.ShortInBoth ∷ member.Largest ∷ member.Bland ∷ []) place
 
 module _ {F : Type 0} (value : F → Number) (limit : ℕ) where
-  -- An answer of the program by one of the rules, with at most `iterlim` pivots. Before the turn to
-  -- Bland's rule, any improving variable may enter by Steepest; each other rule states which one
-  -- enters.
+  -- An answer of the program by one of the rules, with at most `iterlim` pivots. After a long run
+  -- of degenerate pivots Bland's rule picks the entering variable, to the end of the phase. Before
+  -- that, Steepest admits any improving variable, Largest one with the greatest coefficient, Bland
+  -- the one of Bland's rule, and each other rule the cheapest by the costs of that rule. `limit`
+  -- bounds the size of numbers, and `value` gives the number that a value of `F` means.
   abbrev pub IsAnswerOf : Member → Lp F → ℕ → Answer F → Type 0
   IsAnswerOf member.Steepest lp iterlim answer = IsTurningAnswer value limit Improves lp iterlim answer
   IsAnswerOf member.Shortest lp iterlim answer = IsTurningAnswer value limit (IsCheapest (IsCostBy limit LengthAt)) lp iterlim answer
@@ -46,16 +48,18 @@ module _ {F : Type 0} (value : F → Number) (limit : ℕ) where
   IsAnswerOf member.Bland lp iterlim answer = IsAnswer value limit lp iterlim Bland answer
   IsAnswerOf (member.Shuffle n) lp iterlim answer = IsTurningAnswer value limit (IsCheapest (IsCostBy limit (ShuffledAt n))) lp iterlim answer
 
-  -- the program has an answer by this rule that is Refused, as a step exceeds the limit
+  -- the program has an answer by this rule, with at most `iterlim` pivots, that is Refused, as a
+  -- step exceeds the limit of the size of numbers
   abbrev pub IsRefusedBy : Member → Lp F → ℕ → Type 0
   IsRefusedBy rule lp iterlim = (answer : Answer F) × IsAnswerOf rule lp iterlim answer × IsRefusedEnd answer.end
 
-  -- by each of the first `count` rules the program has an answer that is Refused
+  -- by each of the first `count` rules the program has an answer, with at most `iterlim` pivots,
+  -- that is Refused
   abbrev pub AreRefused : ℕ → Lp F → ℕ → Type 0
   AreRefused count lp iterlim = (place : ℕ) → place < count → IsRefusedBy (rule_at place) lp iterlim
 
-  -- An answer by one of the rules that are tried, where by each earlier rule the program has an
-  -- answer that is Refused.
+  -- An answer, with at most `iterlim` pivots, by one of the rules that are tried, where by each
+  -- earlier rule the program has such an answer that is Refused.
   pub record IsAnswerInTurn (lp : Lp F) (iterlim : ℕ) (answer : Answer F) : Type 0 where
     pub place : ℕ
     pub tried : place < rule_count

@@ -5,24 +5,27 @@ use Rattle.gq_number.specs.Number.{Number}
 use Rattle.lp_core.specs.Dictionary.{Dictionary, constant_at, entry_at, IsPriced}
 use Rattle.lp_any.specs.Measures.{bits, gain_above, gain_below}
 
--- The factor of a shuffle, by its number from 0 on: an odd multiple of 2654435761, which is 2^32
--- over the golden ratio (Knuth, The Art of Computer Programming, section 6.4).
+-- The factor of a shuffle, a rule that varies the order of the variables, by the shuffle's number
+-- from 0 on: an odd multiple of 2654435761, modulo 2^32. 2654435761 is about 2^32 over the golden
+-- ratio (Knuth, The Art of Computer Programming, section 6.4).
 abbrev pub factor : ℕ → ℕ
 factor shuffle = (2 * shuffle + 1) * 2654435761 % 2 ^ 32
 
--- The handicap that a shuffle gives a variable, from 0 to 15: the four highest of the 32 bits of
--- the product of the variable's number and the shuffle's factor.
+-- The handicap, an extra cost, that a shuffle gives a variable, from 0 to 15: the four highest of
+-- the lowest 32 bits of the product of the variable's number and the shuffle's factor.
 abbrev pub handicap : ℕ → ℕ → ℕ
 handicap shuffle v = v * factor shuffle % 2 ^ 32 / 268435456
 
--- the cost of a pivot: the bits of the pivot number's numerator plus the variable's handicap, less
--- twice the bits of the gain (`gain_above` less `gain_below`), plus 2000
+-- the cost of a pivot: the bits of the numerator of the pivot `number` plus the variable's
+-- handicap, less twice the bits of the gain, which is `coefficient` times `constant` over `number`
+-- (`gain_above` less `gain_below`), plus 2000; 0 if this is negative
 abbrev pub cost_with_handicap : Number → Number → Number → ℕ → ℕ
 cost_with_handicap coefficient constant number handicap =
     2000 + bits (nat_abs number.numerator) + handicap + 2 * gain_below coefficient constant number - 2 * gain_above coefficient constant number
 
 -- n is the cost by this shuffle of v, which pivots in row k: by the gain, the pivot number's
--- numerator and the handicap of v; j is the priced row
+-- numerator and the handicap of v. j is the priced row: that of variable 0 while it is basic, else
+-- the objective
 abbrev pub ShuffledAt : ℕ → Dictionary → ℕ → ℕ → ℕ → Type 0
 ShuffledAt shuffle d v k n =
     (j : ℕ) × IsPriced d j × (n ≡ cost_with_handicap (entry_at d j v) (constant_at d k) (entry_at d k v) (handicap shuffle v))

@@ -26,11 +26,15 @@ fn is_refused<F: ExactField>(end: &End<F>) -> bool
 /// most `iterlim` pivots; if all are Refused, the answer by Bland's rule: Chvatal, Linear
 /// Programming, chapters 2 and 3.
 ///
-/// Numbers grow along the pivots, and another sequence of pivots may keep them within the limit of
-/// the field. The answer is Refused only if the answer of each rule is Refused. It has only the
-/// pivots of the rule that gives it. Each rule turns to Bland's rule after a long run of degenerate
-/// pivots. This bounds the number of pivots, and if `iterlim` is at least the bound, the end is not
-/// Interrupted. The error is out of memory.
+/// An answer is Refused if a step computes a numerator or a denominator beyond the limit of the
+/// field. Numbers grow along the pivots, and another sequence of pivots may keep them within the
+/// limit. The answer is Refused only if the answer of each rule is Refused. The answer has only the
+/// pivots of the rule that gives it. Each rule turns to Bland's rule, to the end of the phase,
+/// after as many successive degenerate pivots as there are variables. Let v be the number of
+/// variables of the standard form, slacks and variable 0 included. There are fewer than
+/// `2 * 2^v * (v + 1)` pivots. If `iterlim` is at least this bound, the end is not Interrupted,
+/// which is the end after exactly `iterlim` pivots if a further one is required. The error is out
+/// of memory.
 pub fn solve_in<F: ExactField>(
     alloc: Global,
     lp: &Lp<F>,

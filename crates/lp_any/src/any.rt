@@ -18,7 +18,8 @@ use std::alloc::{AllocError, Global};
 use std::marker::Model;
 
 /// The solver that tries several rules in sequence. It gives the first answer that is not Refused,
-/// with the pivots of this answer; if all are Refused, it gives the answer by Bland's rule.
+/// with the pivots of this answer; if all are Refused, it gives the answer by Bland's rule. An
+/// answer is Refused if a step computes a numerator or a denominator beyond the limit of the field.
 #[derive(Drop)]
 pub struct Any {
     taken: Vec<Sequence<Pivot>>,
@@ -64,9 +65,11 @@ impl LpSolver for Any {
     }
 
     /// The answer of a program by the first rule whose answer is not Refused. It is Refused only if
-    /// that of each rule is, Bland's included. Each rule turns to Bland's after a long run of
-    /// degenerate pivots; this bounds the number of pivots, and if `iterlim` is at least the bound,
-    /// the end is not Interrupted.
+    /// that of each rule is, Bland's included. Each rule turns to Bland's rule, to the end of the
+    /// phase, after as many successive degenerate pivots as there are variables. There are fewer
+    /// than `2 * 2^v * (v + 1)` pivots, where v is the number of variables of the standard form,
+    /// slacks and variable 0 included. If `iterlim` is at least this bound, the end is not
+    /// Interrupted, which is the end after exactly `iterlim` pivots if a further one is required.
     fn solve(
         &mut self,
         alloc: Global,

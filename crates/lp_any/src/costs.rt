@@ -51,8 +51,8 @@ fn tried<C: Costing<F>, F: ExactField>(
     Some(better(best, Candidate { variable, cost }))
 }
 
-/// The improving variable that costs least, and of several such the least. `None` exactly if no
-/// variable improves.
+/// The improving variable that costs least, and of several such the one with the least number.
+/// `None` exactly if no variable improves.
 pub(crate) fn cheapest<C: Costing<F>, F: ExactField>(rule: &C, dict: &Dict<F>) -> Option<u32>
     ensures { MatchOption result ((v : ℕ) → ¬ (Improves (dictionary F.value dict.now) v)) (IsCheapest (C.costs rule.now) (dictionary F.value dict.now)) }
 {

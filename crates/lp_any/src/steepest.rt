@@ -19,9 +19,9 @@ use std::marker::Model;
 
 /// The solver by steepest edge: Goldfarb and Reid, "A practicable steepest-edge simplex algorithm".
 /// The length of an edge counts only the rows that limit how far the entering variable rises. Of
-/// the variables that tie in the ratio test the one with the least number leaves. After a long run
-/// of degenerate pivots the solver uses Bland's rule, which does not cycle, to the end of the
-/// phase.
+/// the variables that tie in the ratio test the one with the least number leaves. After as many
+/// successive degenerate pivots as there are variables the solver uses Bland's rule, which does not
+/// cycle, to the end of the phase.
 #[derive(Drop)]
 pub struct Steepest {
     taken: Vec<Sequence<Pivot>>,

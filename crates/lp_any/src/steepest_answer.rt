@@ -21,9 +21,10 @@ use std::alloc::{AllocError, Global};
 /// successive degenerate pivots as there are variables, Bland's rule takes over to the end of the
 /// phase (the turn). Optimal, Infeasible and Unbounded come with their certificates. Interrupted is
 /// the end after exactly `iterlim` pivots if a further pivot is required. Refused has the first
-/// step whose result does not fit under the limit of the field. The turn bounds the number of
-/// pivots, and if `iterlim` is at least this bound, the end is not Interrupted. No contract states
-/// which improving variable enters before the turn. The error is out of memory.
+/// step that computes a numerator or a denominator beyond the limit of the field. Let v be the
+/// number of variables of the standard form, slacks and variable 0 included. There are fewer than
+/// `2 * 2^v * (v + 1)` pivots. If `iterlim` is at least this bound, the end is not Interrupted. No
+/// contract states which improving variable enters before the turn. The error is out of memory.
 pub fn solve_in<F: ExactField>(
     alloc: Global,
     lp: &Lp<F>,

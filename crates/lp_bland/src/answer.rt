@@ -43,10 +43,10 @@ impl<F: ExactField> Choosing<F> for Least {
 ///
 /// An answer whose end is Optimal, Infeasible or Unbounded has a certificate of this end.
 /// Interrupted is the end after exactly `iterlim` pivots if a further one is required. Refused has
-/// the first step that does not fit under the limit of the field. There are fewer than `2 * 2^v`
-/// pivots, where v is the number of variables of the standard form, slacks and variable 0 included.
-/// So the end is not Interrupted if `iterlim` is at least `2 * 2^v`. The only error is out of
-/// memory.
+/// the first step that computes a numerator or a denominator beyond the limit of the field. There
+/// are fewer than `2 * 2^v` pivots, where v is the number of variables of the standard form, slacks
+/// and variable 0 included. So the end is not Interrupted if `iterlim` is at least `2 * 2^v`. The
+/// only error is out of memory.
 pub fn solve_in<F: ExactField>(
     alloc: Global,
     lp: &Lp<F>,

@@ -16,9 +16,9 @@ use lp_slot::{LpSolver, SolverRule};
 use std::alloc::{AllocError, Global};
 use std::marker::Model;
 
-/// The solver by Bland's rule: of the variables that improve the one with the least number enters,
-/// and of those that tie in the ratio test the one with the least number leaves. Contracts see it
-/// as the list of the pivots of each answer so far.
+/// The solver by Bland's rule: of the variables that improve the objective, the one with the least
+/// number enters, and of those that tie in the ratio test, the one with the least number leaves.
+/// Contracts view the solver as a list that has, for each answer so far, the list of its pivots.
 #[derive(Drop)]
 pub struct Bland {
     taken: Vec<Sequence<Pivot>>,
@@ -64,8 +64,8 @@ impl LpSolver for Bland {
     }
 
     /// The only answer of a program under Bland's rule. No basis repeats in a phase, so there are
-    /// fewer pivots than twice the number of sets of the variables of the standard form, slacks and
-    /// variable 0 included. If `iterlim` is at least that many, the end is not Interrupted.
+    /// fewer pivots than twice the number of subsets of the variables of the standard form, slacks
+    /// and variable 0 included. If `iterlim` is at least that many, the end is not Interrupted.
     fn solve(
         &mut self,
         alloc: Global,

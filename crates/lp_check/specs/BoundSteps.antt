@@ -18,8 +18,9 @@ use Rattle.lp_core.specs.DualBound.{row_lower, row_upper, objective_costs, no_co
 use Rattle.lp_core.specs.DualBound as dual
 use Rattle.lp_core.specs.Steps.{ExpectedStep, AllFit, FirstStop, product_fits, difference_fits, asks_nothing}
 
--- whether each step fits that adds a factor times a bound to the sum s: the product, then the sum;
--- no steps without a bound
+-- whether each step that adds a factor times a bound to the sum s fits: the product, then the sum.
+-- A step fits if its integers (`product_fits`, `sum_fits`) are at most `limit` in magnitude. No
+-- steps without a bound
 abbrev pub plus_steps : ℕ → Number → Number → Option Number → List Bool
 plus_steps limit s factor None = []
 plus_steps limit s factor (Some bound) = product_fits limit factor bound ∷ sum_fits limit s (factor *ℚ bound) ∷ []
@@ -29,8 +30,9 @@ abbrev pub plus_product : Number → Number → Option Number → Number
 plus_product s factor None = s
 plus_product s factor (Some bound) = s +ℚ factor *ℚ bound
 
--- whether each step fits that subtracts a factor times an entry from the number s: the product,
--- then the difference; no steps without an entry
+-- whether each step that subtracts a factor times an entry from the number s fits: the product,
+-- then the difference. A step fits if its integers (`product_fits`, `difference_fits`) are at most
+-- `limit` in magnitude. No steps without an entry
 abbrev pub less_steps : ℕ → Number → Number → Option Number → List Bool
 less_steps limit s factor None = []
 less_steps limit s factor (Some entry) = product_fits limit factor entry ∷ difference_fits limit s (factor *ℚ entry) ∷ []
@@ -81,70 +83,76 @@ rows_sum value above s [] duals = s
 rows_sum value above s (row ∷ rows) [] = s
 rows_sum value above s (row ∷ rows) (y ∷ duals) = rows_sum value above (plus_product s y (row_bound value above row y)) rows duals
 
--- the sum s plus, for each of these columns, its reduced cost times the bound of the column that
--- this uses, for an upper bound of the objective if `above`, else for a lower one; the first column
--- has number j
+-- the sum s plus, for each of these columns, its reduced cost (`reduced`, by the number of the
+-- column) times the bound of the column that this cost uses, for an upper bound of the objective if
+-- `above`, else for a lower one; the first column has number j
 abbrev pub columns_sum : {F : Type 0} → (F → Number) → Bool → (ℕ → Number) → Number → ℕ → List (Column F) → Number
 columns_sum value above reduced s j [] = s
 columns_sum value above reduced s j (column ∷ columns) =
     columns_sum value above reduced (plus_product s (reduced j) (column_bound value above column (reduced j))) (j + 1) columns
 
 module _ {F : Type 0} (value : F → Number) (limit : ℕ) where
-  -- whether each step fits that subtracts from s, row by row, the dual times the entry of column j;
-  -- s is the column's cost less what is subtracted so far
+  -- whether each step fits under the limit that subtracts from s, row by row, the dual times the
+  -- entry of column j (a nonbinding row has none); s is the column's cost less what is subtracted
+  -- so far
   abbrev pub reduced_cost_bound_steps : ℕ → Number → List (Row F) → List Number → List Bool
   reduced_cost_bound_steps j s [] duals = []
   reduced_cost_bound_steps j s (row ∷ rows) [] = []
   reduced_cost_bound_steps j s (row ∷ rows) (y ∷ duals) =
       less_steps limit s y (entry_in value j row) ++ reduced_cost_bound_steps j (less_product s y (entry_in value j row)) rows duals
 
-  -- whether each step fits that computes the reduced costs of these columns, of which the first has
-  -- number j, from their costs
+  -- whether each step fits under the limit that computes the reduced costs of these columns from
+  -- their costs (`costs`, by the number of the column); the first column has number j
   abbrev pub all_reduced_steps : (ℕ → Number) → List (Row F) → List Number → ℕ → List (Column F) → List Bool
   all_reduced_steps costs rows duals j [] = []
   all_reduced_steps costs rows duals j (column ∷ columns) =
       reduced_cost_bound_steps j (costs j) rows duals ++ all_reduced_steps costs rows duals (j + 1) columns
 
-  -- whether each step fits that adds to the sum s, row by row, the dual times the bound of the
-  -- row's sum that the dual uses, for an upper bound of the objective if `above`, else for a lower
-  -- one
+  -- whether each step fits under the limit that adds to the sum s, row by row, the dual times the
+  -- bound of the row's sum that the dual uses, for an upper bound of the objective if `above`, else
+  -- for a lower one
   abbrev pub row_bound_steps : Bool → Number → List (Row F) → List Number → List Bool
   row_bound_steps above s [] duals = []
   row_bound_steps above s (row ∷ rows) [] = []
   row_bound_steps above s (row ∷ rows) (y ∷ duals) =
       plus_steps limit s y (row_bound value above row y) ++ row_bound_steps above (plus_product s y (row_bound value above row y)) rows duals
 
-  -- whether each step fits that adds to the sum s, column by column, the reduced cost times the
-  -- bound that this uses, for an upper bound of the objective if `above`, else for a lower one; the
-  -- first column has number j
+  -- whether each step fits under the limit that adds to the sum s, column by column, the reduced
+  -- cost (`reduced`, by the number of the column) times the bound of the column that this cost
+  -- uses, for an upper bound of the objective if `above`, else for a lower one; the first column
+  -- has number j
   abbrev pub columns_steps : Bool → (ℕ → Number) → Number → ℕ → List (Column F) → List Bool
   columns_steps above reduced s j [] = []
   columns_steps above reduced s j (column ∷ columns) =
       plus_steps limit s (reduced j) (column_bound value above column (reduced j))
       ++ columns_steps above reduced (plus_product s (reduced j) (column_bound value above column (reduced j))) (j + 1) columns
 
-  -- whether each step fits that computes an upper bound (if `above`) or a lower bound of the sum of
-  -- each column's cost times its value: first the reduced costs, then the rows' terms, then the
-  -- columns'
+  -- whether each step fits under the limit that computes an upper bound (if `above`) or a lower
+  -- bound of the sum of each column's cost times its value, from the duals: first the reduced
+  -- costs, then the rows' terms (a dual times the bound that it uses), then the columns' (a reduced
+  -- cost times the bound that it uses); `costs` is by the number of the column
   abbrev pub steps_of_bound : Bool → (ℕ → Number) → Lp F → List Number → List Bool
   steps_of_bound above costs lp duals =
       all_reduced_steps costs lp.rows duals 0 lp.columns
       ++ row_bound_steps above (whole (pos 0)) lp.rows duals
       ++ columns_steps above (reduced_cost value lp costs duals) (rows_sum value above (whole (pos 0)) lp.rows duals) 0 lp.columns
 
-  -- the steps that compute the bound of the objective (true), or the lower bound of 0 (false),
-  -- numbered from 0, each with whether it fits
+  -- the steps that compute from the duals the bound of the objective (true), or a lower bound of
+  -- the sum of each column's cost times its value with each cost 0 (false), numbered from 0, each
+  -- with whether it fits
   abbrev pub bound_steps : Bool → Lp F → List Number → List ExpectedStep
   bound_steps true lp duals = map (λ (p : ℕ × Bool). (Check p.0, p.1)) (enumerate_from 0 (steps_of_bound lp.maximize (objective_costs lp) lp duals))
   bound_steps false lp duals = map (λ (p : ℕ × Bool). (Check p.0, p.1)) (enumerate_from 0 (steps_of_bound false no_costs lp duals))
 
--- the bound of the objective (true), or the lower bound of 0 (false), that the duals give; None if
--- a bound that it uses does not exist
+-- the bound that the duals give of the objective (true), or their lower bound of the sum of each
+-- column's cost times its value with each cost 0 (false); None if they use a bound of a row or a
+-- column that does not exist
 abbrev pub objective_bound : {F : Type 0} → (F → Number) → Bool → Lp F → List Number → Option Number
 objective_bound value true lp duals = dual.dual_bound value lp duals
 objective_bound value false lp duals = dual.low value lp no_costs duals
 
--- Ok: all these steps fit, and the answer means this number. Err: the first step that does not fit.
+-- Ok: all these steps fit, and the value means `number`, which is not None. Err: the first step
+-- that does not fit.
 abbrev pub Bounds : {F : Type 0} → (F → Number) → List ExpectedStep → Option Number → Result F StepName → Type 0
 Bounds value steps number (Ok x) = AllFit steps × (number ≡ Some (value x))
 Bounds value steps number (Err step) = FirstStop steps step

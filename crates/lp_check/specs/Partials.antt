@@ -16,8 +16,8 @@ first_unfit [] = None
 first_unfit (true ∷ fits) = option_map (λ n. n + 1) (first_unfit fits)
 first_unfit (false ∷ fits) = Some 0
 
--- the step is a `Check` step with the number of the first of these steps that does not fit, where
--- `taken` is the number of the steps before them
+-- the step is a `Check` step with the number of the first of these steps that does not fit; these
+-- steps are numbered from `taken` on, the number of the steps before them
 abbrev pub StopsAfterSteps : ℕ → List Bool → StepName → Type 0
 StopsAfterSteps taken fits (Check part) = (n : ℕ) × (first_unfit fits ≡ Some n) × (part ≡ taken + n)
 StopsAfterSteps taken fits (StandardStep row column part) = ⊥
@@ -30,8 +30,8 @@ StopsAfterSteps taken fits (Recover what index entry part) = ⊥
 abbrev pub Took : ℕ → List Bool → ℕ → Type 0
 Took before fits after = (first_unfit fits ≡ None) × (after ≡ before + length fits)
 
--- Ok: all these steps fit after the `taken` ones before, and give this number. Err: the first that
--- does not fit.
+-- Ok: all these steps fit, and the result has the sum `number` and counts these steps and the
+-- `taken` ones before. Err: the first step that does not fit.
 abbrev pub Reaches : {F : Type 0} → (F → Number) → ℕ → List Bool → Number → Result (Partial F) StepName → Type 0
 Reaches value taken fits number (Ok p) = Took taken fits p.taken × (value p.sum ≡ number)
 Reaches value taken fits number (Err step) = StopsAfterSteps taken fits step
@@ -42,19 +42,20 @@ abbrev pub TakesSteps : ℕ → List Bool → Result ℕ StepName → Type 0
 TakesSteps taken fits (Ok after) = Took taken fits after
 TakesSteps taken fits (Err step) = StopsAfterSteps taken fits step
 
--- the number s less, for each of these rows, its dual times its entry of column j; s is the
--- column's cost less what is subtracted so far
+-- the number s less, for each of these rows, its dual times its entry of column j (a nonbinding row
+-- has none); s is the column's cost less what is subtracted so far
 abbrev pub reduced_sum : {F : Type 0} → (F → Number) → ℕ → Number → List (Row F) → List Number → Number
 reduced_sum value j s [] duals = s
 reduced_sum value j s (row ∷ rows) [] = s
 reduced_sum value j s (row ∷ rows) (y ∷ duals) = reduced_sum value j (less_product s y (entry_in value j row)) rows duals
 
 -- the reduced cost of column j: its cost less, for each row, its dual times its entry of the column
+-- (a nonbinding row has none)
 abbrev pub reduced_costs : {F : Type 0} → (F → Number) → (ℕ → Number) → List (Row F) → List Number → ℕ → Number
 reduced_costs value costs rows duals j = reduced_sum value j (costs j) rows duals
 
--- for each column j, a factor times the column's entry is subtracted from its number, and the steps
--- of this fit under the limit
+-- for each column j, `after` has the number of `before` less a factor times the column's entry, and
+-- the steps of this fit under the limit
 abbrev pub Lessened : ℕ → Number → (ℕ → Option Number) → (ℕ → Number) → (ℕ → Number) → Type 0
 Lessened limit factor entry before after =
     (j : ℕ) → (first_unfit (less_steps limit (before j) factor (entry j)) ≡ None) × (after j ≡ less_product (before j) factor (entry j))
@@ -64,21 +65,25 @@ abbrev pub costs_of : Option ℕ → ℕ → Number
 costs_of None j = whole (pos 0)
 costs_of (Some objective) j = if objective == j then whole (pos 1) else whole (pos 0)
 
--- whether the bound that duals give is an upper bound: of the objective (true), where it is one if
--- the objective is maximized, or of a sum whose costs are all 0 (false), where it is none
+-- whether the bound that duals give is an upper one, not a lower one: of the objective (true) it is
+-- if the objective is maximized; of the sum of each column's cost times its value with each cost 0
+-- (false) it never is
 abbrev pub is_above : {F : Type 0} → Bool → Lp F → Bool
 is_above true lp = lp.maximize
 is_above false lp = false
 
 module _ {F : Type 0} (value : F → Number) (above : Bool) (costs : ℕ → Number) (rows : List (Row F)) (columns : List (Column F)) (duals : List Number) where
-  -- whether each step fits that computes the bound: first those of the reduced costs, then those of
-  -- the rows' terms, then those of the columns' terms
+  -- whether each step fits under the limit that computes, from the duals, an upper bound (if
+  -- `above`) or a lower bound of the sum of each column's cost times its value: first the steps of
+  -- the reduced costs, then those of the rows' terms (a dual times the bound that it uses), then
+  -- those of the columns' terms (a reduced cost times the bound that it uses)
   abbrev pub steps_over : ℕ → List Bool
   steps_over limit =
       all_reduced_steps value limit costs rows duals 0 columns
       ++ row_bound_steps value limit above (whole (pos 0)) rows duals
       ++ columns_steps value limit above (reduced_costs value costs rows duals) (rows_sum value above (whole (pos 0)) rows duals) 0 columns
 
-  -- the bound that these steps compute: the sum of the rows' terms and the columns' terms
+  -- the bound that the steps of `steps_over` compute: the sum of the rows' terms (a dual times the
+  -- bound that it uses) and the columns' terms (a reduced cost times the bound that it uses)
   abbrev pub sum_over : Number
   sum_over = columns_sum value above (reduced_costs value costs rows duals) (rows_sum value above (whole (pos 0)) rows duals) 0 columns

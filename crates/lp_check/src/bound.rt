@@ -80,17 +80,19 @@ fn bound_over<F: ExactField>(
     columns_part(rows, columns, objective, duals, above, part)
 }
 
-/// The bound that `duals`, a factor for each row, give of the objective. If `with_objective` is
-/// false, the number 0 is the objective. The bound has to exist: each bound of a row or a column
-/// that the sum uses is there.
+/// The bound of the objective that `duals`, a factor for each row, give. If `with_objective` is
+/// false, the objective is the number 0, minimized. The bound is a sum: for each row the dual times
+/// a bound of the row's sum, and for each column the reduced cost times a bound of the column. The
+/// sign of the factor determines whether this is the lower or the upper bound, and a factor of 0
+/// uses none. Each bound that is used must exist.
 ///
 /// When minimizing, the bound is at most the objective's value at each feasible point; when
 /// maximizing, at least. If there is a feasible point, the bound of the number 0 is at most 0. The
-/// error is `Check`, the first step whose result does not fit under the limit of the field. The
-/// steps are, column by column, those of the reduced cost over the binding rows with an entry of
-/// the column; then, row by row and column by column, those of the terms of the sum. Each entry or
-/// term has two steps, a product and then a sum or a difference. Chvatal, Linear Programming,
-/// chapters 5 and 9.
+/// error is `Check`, the first step that computes a numerator or a denominator beyond the limit of
+/// the field. The steps are, column by column, those of the reduced cost over the rows that have an
+/// entry of the column and are not `=n=`; then, row by row and column by column, those of the terms
+/// of the sum. Each entry or term has two steps, a product and then a sum or a difference. Chvatal,
+/// Linear Programming, chapters 5 and 9.
 ///
 /// Each entry is visited once if all steps fit and there is memory for the reduced costs; otherwise
 /// each column is looked for in each row.

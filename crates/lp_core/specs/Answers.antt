@@ -21,23 +21,24 @@ use Rattle.lp_core.specs.Ends.{EndsSoBy}
 abbrev pub EndsCrossed : {F : Type 0} → (F → Number) → Lp F → End F → Type 0
 EndsCrossed {F} value lp end = (duals : List F) × (j : ℕ) × (end ≡ Infeasible duals (Some j)) × ProvesCrossed value lp j (map value duals)
 
--- no bounds cross, but a step of the standard form does not fit: the end is Refused with the first
--- step that does not
+-- No bounds cross, but a step that computes the standard form does not fit: a numerator or
+-- denominator that it computes exceeds `limit`. The end is Refused with the first such step.
 abbrev pub EndsUnformed : {F : Type 0} → (F → Number) → ℕ → Lp F → End F → Type 0
 EndsUnformed value limit lp end =
     FirstCrossed value lp.columns None × ((step : StepName) × (end ≡ Refused step) × FirstStop (standard_steps value limit lp) step)
 
 module _ {F : Type 0} (value : F → Number) (limit : ℕ) (lp : Lp F) (iterlim : ℕ) where
-  -- An answer of a program under a limit of pivots. `Allowed` says which pivots may be made, each
-  -- with the row of its leaving variable, and `Chosen` which variables may enter; both depend on
-  -- the pivots so far and the dictionary they lead to.
+  -- An answer of a program under `iterlim`, a limit of pivots. `Allowed` says which pivots may be
+  -- made, each with the row of its leaving variable, and `Chosen` which variables may enter; both
+  -- depend on the pivots so far and the dictionary they lead to. A step fits if no numerator or
+  -- denominator that it computes exceeds `limit`.
   pub data IsAnswerBy (Allowed : List Pivot → Dictionary → Pivot → ℕ → Type 0) (Chosen : List Pivot → Dictionary → ℕ → Type 0) (answer : Answer F) : Type 0 where
     -- the bounds of a column cross
     bounds_cross : answer.pivots ≡ [] → EndsCrossed value lp answer.end → IsAnswerBy Allowed Chosen answer
     -- none cross, and a step of the standard form does not fit
     form_stops : answer.pivots ≡ [] → EndsUnformed value limit lp answer.end → IsAnswerBy Allowed Chosen answer
-    -- none cross, the steps fit, at most `iterlim` allowed pivots lead from the first dictionary
-    -- to a final one with all their steps fitting, and the search ends there
+    -- none cross, the steps fit, at most `iterlim` allowed pivots, numbered from 1, lead from the
+    -- first dictionary to a final one with all their steps fitting, and the search ends there
     search_ends : FirstCrossed value lp.columns None → AllFit (standard_steps value limit lp) → length answer.pivots ≤ iterlim →
         (last : Dictionary) → LeadsWithin Allowed limit 1 [] (first_dictionary (standard_form value lp)) answer.pivots last →
         EndsSoBy value limit lp iterlim (Allowed answer.pivots last) (Chosen answer.pivots last) (length answer.pivots) last answer.end →
@@ -48,7 +49,8 @@ module _ {F : Type 0} (value : F → Number) (limit : ℕ) (lp : Lp F) (iterlim 
   IsAnswer rule answer = IsAnswerBy (ByRule rule) (λ done d. IsChosen rule d) answer
 
   -- An answer in which `choice` says which variables may enter. It depends on the first dictionary,
-  -- the pivots so far, and the dictionary they lead to. Of the tied variables the least leaves.
+  -- the pivots so far, and the dictionary they lead to. Of the variables that may leave, the one
+  -- with the least number leaves.
   abbrev pub IsAnswerByChoice : (Dictionary → List Pivot → Dictionary → ℕ → Type 0) → Answer F → Type 0
   IsAnswerByChoice choice answer =
       let first : Dictionary = first_dictionary (standard_form value lp) in

@@ -59,7 +59,8 @@ first_entry needed slack row zero = if needed then neg_ℚ (whole (pos 1)) else 
 first_entry needed slack row (suc v) = if suc v == slack then whole (pos 1) else of_variable row.entries (suc v)
 
 -- the number of a row of the first dictionary in a column: the right side in column 0, the
--- coefficient of variable v in column v + 1
+-- coefficient of variable v in column v + 1. `needed` says whether phase 1 is needed, and `slack`
+-- is the row's slack variable
 abbrev pub first_row : Bool → ℕ → StandardRow → ℕ → Number
 first_row needed slack row zero = row.right
 first_row needed slack row (suc v) = first_entry needed slack row v
@@ -71,11 +72,14 @@ first_objective s zero = neg_ℚ s.constant
 first_objective s (suc zero) = whole (pos 0)
 first_objective s (suc (suc v)) = value_of_column s.objective v
 
--- a row without entries and with the right side 0, the default past the last row
+-- a row without entries and with the right side 0, the default past the last row; its origin is
+-- arbitrary
 abbrev pub no_row : StandardRow
 no_row = record { right = whole (pos 0); entries = []; origin = of_bound 0 }
 
--- the first dictionary of a standard form: the slacks are basic, numbered after the other variables
+-- The first dictionary of a standard form. The slacks are basic, numbered after the other
+-- variables. If some right side is below 0 (`some_below`), phase 1 is needed, and variable 0 occurs
+-- in each row. The objective follows the rows.
 abbrev pub first_dictionary : Standard → Dictionary
 first_dictionary s =
     let count : ℕ = length s.objective in
@@ -87,7 +91,7 @@ first_dictionary s =
 
 -- ---- which pivots are legal
 
--- the dictionary is in phase 1: variable 0 is basic
+-- variable 0 is basic in the dictionary, as it is in phase 1 after the opening pivot
 abbrev pub InPhaseOne : Dictionary → Type 0
 InPhaseOne d = Contains d.basic 0
 
@@ -161,14 +165,14 @@ IsLeaving d q (Some v) = ((k : ℕ) × (slice_get d.basic k ≡ Some v) × Ties 
 abbrev pub divided_entry : Dictionary → ℕ → ℕ → ℕ → Number
 divided_entry d q k c = d.numbers k c /ℚ entry_at d k q
 
--- the number of row i in column c after q has become basic in row k: row k is divided by its
--- coefficient of q, and from each other row the multiple of it is subtracted that makes the
--- coefficient of q zero
+-- the number of row i in column c after variable q has become basic in row k: row k is divided by
+-- its coefficient of q, and from each other row the multiple of row k is subtracted that makes the
+-- coefficient of q in the other row zero
 abbrev pub exchanged_numbers : Dictionary → ℕ → ℕ → ℕ → ℕ → Number
 exchanged_numbers d q k i c = if i == k then divided_entry d q k c else d.numbers i c -ℚ entry_at d i q *ℚ divided_entry d q k c
 
 -- the dictionary after variable q has become basic in row k; if variable 0 leaves, all coefficients
--- of variable 0 become 0
+-- of variable 0, which are in column 1, become 0
 abbrev pub exchanged : Dictionary → ℕ → ℕ → Dictionary
 exchanged d q k =
     record {
@@ -197,8 +201,8 @@ HasZero d = InPhaseOne d ⊎ OpeningIsRequired d
 
 -- A dictionary of a standard form. Its basic variables are variables of the form, and each occurs
 -- in its own row alone. The values that satisfy it are those that satisfy the first dictionary,
--- with the same objective; once variable 0 has left, this holds for values with 0 at variable 0.
--- While variable 0 is basic and no opening pivot is required, its constant is above 0.
+-- with the same objective; if variable 0 is not in use (`HasZero`), this holds for values with 0 at
+-- variable 0. While variable 0 is basic and no opening pivot is required, its constant is above 0.
 pub record IsDictionaryOf (s : Standard) (d : Dictionary) : Type 0 where
   pub variables : d.variables ≡ length s.objective + length s.rows
   pub sized : length d.basic ≡ length s.rows

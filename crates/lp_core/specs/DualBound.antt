@@ -53,7 +53,7 @@ both a b = option_and_then (λ x. option_map (λ y. x +ℚ y) b) a
 abbrev pub objective_costs : {F : Type 0} → Lp F → ℕ → Number
 objective_costs lp j = if lp.objective == j then whole (pos 1) else whole (pos 0)
 
--- the cost of column j if all costs are 0
+-- the cost of column j if each cost is 0
 abbrev pub no_costs : ℕ → Number
 no_costs j = whole (pos 0)
 
@@ -64,15 +64,16 @@ module _ {F : Type 0} (value : F → Number) (lp : Lp F) where
   reduced_cost costs duals j =
       costs j -ℚ sum_by_ℚ (λ (p : Row F × Number). p.1 *ℚ column_coefficient value p.0.entries j) (zip lp.rows duals)
 
-  -- the rows' terms of a lower bound, summed: each dual times the bound of its row's sum, the lower
-  -- one if the dual is positive, the upper one if negative; None if such a bound does not exist
+  -- the rows' part of `low`, a lower bound of the total cost: the sum of each dual times the
+  -- bound of its row's sum, the lower one if the dual is positive, the upper one if negative; None
+  -- if a bound that is used does not exist
   abbrev pub rows_low : List Number → Option Number
   rows_low duals =
       total (map (λ (p : Row F × Number). used p.1 (row_lower p.0.sense (value p.0.right)) (row_upper p.0.sense (value p.0.right))) (zip lp.rows duals))
 
-  -- the columns' terms of a lower bound, summed: each reduced cost times the bound of its column,
-  -- the lower one if the cost is positive, the upper one if negative; None if such a bound does not
-  -- exist
+  -- the columns' part of `low`, a lower bound of the total cost: the sum of each reduced cost
+  -- times the bound of its column, the lower one if the reduced cost is positive, the upper one if
+  -- negative; None if a bound that is used does not exist; `costs` has the costs by column
   abbrev pub columns_low : (ℕ → Number) → List Number → Option Number
   columns_low costs duals =
       total (map (λ (p : ℕ × Column F). used (reduced_cost costs duals p.0) (bound_value value p.1.lower) (bound_value value p.1.upper)) (enumerate_from 0 lp.columns))
@@ -82,16 +83,16 @@ module _ {F : Type 0} (value : F → Number) (lp : Lp F) where
   abbrev pub low : (ℕ → Number) → List Number → Option Number
   low costs duals = both (rows_low duals) (columns_low costs duals)
 
-  -- the rows' terms of an upper bound, summed: each dual times the bound of its row's sum, the
-  -- upper one if the dual is positive, the lower one if negative; None if such a bound does not
-  -- exist
+  -- the rows' part of `high`, an upper bound of the total cost: the sum of each dual times the
+  -- bound of its row's sum, the upper one if the dual is positive, the lower one if negative; None
+  -- if a bound that is used does not exist
   abbrev pub rows_high : List Number → Option Number
   rows_high duals =
       total (map (λ (p : Row F × Number). used p.1 (row_upper p.0.sense (value p.0.right)) (row_lower p.0.sense (value p.0.right))) (zip lp.rows duals))
 
-  -- the columns' terms of an upper bound, summed: each reduced cost times the bound of its column,
-  -- the upper one if the cost is positive, the lower one if negative; None if such a bound does not
-  -- exist
+  -- the columns' part of `high`, an upper bound of the total cost: the sum of each reduced cost
+  -- times the bound of its column, the upper one if the reduced cost is positive, the lower one if
+  -- negative; None if a bound that is used does not exist; `costs` has the costs by column
   abbrev pub columns_high : (ℕ → Number) → List Number → Option Number
   columns_high costs duals =
       total (map (λ (p : ℕ × Column F). used (reduced_cost costs duals p.0) (bound_value value p.1.upper) (bound_value value p.1.lower)) (enumerate_from 0 lp.columns))

@@ -18,8 +18,8 @@ use Rattle.lp_core.specs.Dictionary.{Dictionary, OpeningIsRequired, InPhaseOne, 
 use Rattle.lp_core.specs.Steps.{AllFit, FirstStop, ratio_steps, exchange_steps, steps_back}
 use Rattle.lp_core.specs.Pivots.{IsChosen, NothingImproves, TestFits, last_of, last_along}
 
--- q is a chosen variable that no row limits, at a dictionary where the opening pivot is not
--- required
+-- q is a variable that may enter (`Chosen`) and that no row limits, at a dictionary where the
+-- opening pivot is not required
 abbrev pub IsUnlimitedBy : (ℕ → Type 0) → Dictionary → ℕ → Type 0
 IsUnlimitedBy Chosen d q = ¬ (OpeningIsRequired d) × Chosen q × ((k : ℕ) → ¬ (Limits d q k))
 
@@ -33,8 +33,10 @@ IsUnfinishedBy Chosen d = OpeningIsRequired d ⊎ (¬ (OpeningIsRequired d) × (
 abbrev pub IsPhase : Dictionary → ℕ → Type 0
 IsPhase d phase = ((phase ≡ 1) × (OpeningIsRequired d ⊎ InPhaseOne d)) ⊎ ((phase ≡ 2) × ¬ (OpeningIsRequired d) × ¬ (InPhaseOne d))
 
--- `step` is the first step of the n-th pivot that does not fit under the limit: one of the ratio
--- test, which an opening pivot does not have, or one of the exchange if the whole ratio test fits
+-- `step` does not fit in the n-th pivot, at the dictionary d: a numerator or denominator that it
+-- computes exceeds `limit`. It is the first such step of the ratio test of some `Chosen` variable,
+-- where no opening pivot is required, or the first of the exchange of some `Allowed` pivot whose
+-- whole ratio test fits. An opening pivot has no ratio test.
 abbrev pub PivotStopsBy : (Pivot → ℕ → Type 0) → (ℕ → Type 0) → ℕ → ℕ → Dictionary → StepName → Type 0
 PivotStopsBy Allowed Chosen limit n d step =
     (¬ (OpeningIsRequired d) × ((q k : ℕ) × Chosen q × Limits d q k × FirstStop (ratio_steps limit n d q) step))
@@ -47,35 +49,43 @@ IsUnlimited rule d q = IsUnlimitedBy (IsChosen rule d) d q
 
 -- ---- the kinds of ends
 
--- A search ends at the dictionary d with this kind, and `last` is read from d. Optimal: nothing
--- improves and variable 0 is not basic. Infeasible: nothing improves and variable 0 is basic.
--- Unbounded: variable 0 is not basic, no row limits a chosen variable, and `last` has the ray along
--- which it rises. Interrupted: the search is broken off, as `BrokenOff` states, in phase 2.
+-- A search ends at the dictionary d with this kind. `last` is read from d: the value of each
+-- variable, its coefficient in the priced row, and for Unbounded a ray. No opening pivot is
+-- required. Optimal: no variable improves, and variable 0 is not basic. Infeasible: no variable
+-- improves, and variable 0 is basic. Unbounded: variable 0 is not basic, no row limits some
+-- variable that may enter (`Chosen`), and the ray is that along which this variable rises.
+-- Interrupted: variable 0 is not basic, and `BrokenOff` holds, the condition under which the search
+-- is broken off.
 abbrev pub EndsAt : (ℕ → Type 0) → Type 0 → Dictionary → EndKind → Last → Type 0
 EndsAt Chosen BrokenOff d kind.Optimal last = ¬ (InPhaseOne d) × NothingImproves d × (last ≡ last_of d)
 EndsAt Chosen BrokenOff d kind.Infeasible last = InPhaseOne d × NothingImproves d × (last ≡ last_of d)
 EndsAt Chosen BrokenOff d kind.Unbounded last = ¬ (InPhaseOne d) × ((q : ℕ) × IsUnlimitedBy Chosen d q × (last ≡ last_along d q))
 EndsAt Chosen BrokenOff d kind.Interrupted last = ¬ (InPhaseOne d) × ¬ (OpeningIsRequired d) × BrokenOff × (last ≡ last_of d)
 
--- A search may end at the dictionary with this kind, and `last` is read from it. Any improving
--- variable may be chosen, and the search may be broken off while a variable improves.
+-- A search in which each improving variable may enter may end at the dictionary with this kind.
+-- `last` is read from the dictionary, as `EndsAt` states. Interrupted requires phase 2 and some
+-- variable that improves.
 abbrev pub IsReadAt : Dictionary → EndKind → Last → Type 0
 IsReadAt d kind last = EndsAt (Improves d) ((q : ℕ) × Improves d q) d kind last
 
--- A search may end at the dictionary. None: nothing improves; or a variable improves, and the
--- search is broken off in phase 2. Some q: variable q improves in phase 2, and no row limits it.
+-- A search may end at the dictionary, at which the opening pivot is not required. None: no variable
+-- improves (Optimal, or Infeasible if variable 0 is basic), or variable 0 is not basic and some
+-- variable improves (Interrupted). Some q: variable 0 is not basic, variable q improves, and no row
+-- limits q (Unbounded).
 abbrev pub IsDone : Dictionary → Option ℕ → Type 0
 IsDone d None = NothingImproves d ⊎ (¬ (InPhaseOne d) × ¬ (OpeningIsRequired d) × ((q : ℕ) × Improves d q))
 IsDone d (Some q) = ¬ (InPhaseOne d) × IsUnlimited Legal d q
 
--- what is read from a final dictionary: with the ray along which variable q rises, or for None
--- without a ray
+-- what is read from a final dictionary: the value of each variable, its coefficient in the priced
+-- row, and the ray along which variable q rises; for None no ray
 abbrev pub last_with : Dictionary → Option ℕ → Last
 last_with d None = last_of d
 last_with d (Some q) = last_along d q
 
 module _ {F : Type 0} (value : F → Number) (lp : Lp F) where
-  -- the end is of this kind, and has the lists that the recovery computes from `last`
+  -- The end is of this kind, and its lists are those that the recovery computes for the columns
+  -- and rows of the program, from `last`, which is read from the final dictionary. Infeasible
+  -- names no crossed column, and Interrupted is of phase 2.
   abbrev pub LeadsTo : EndKind → Last → End F → Type 0
   LeadsTo kind.Optimal last (Optimal levels row_levels duals reduced) =
       (map value levels ≡ levels_back value lp last) × (map value row_levels ≡ row_sums value lp (levels_back value lp last))
@@ -89,16 +99,20 @@ module _ {F : Type 0} (value : F → Number) (lp : Lp F) where
   LeadsTo other last end = ⊥
 
 module _ {F : Type 0} (value : F → Number) (limit : ℕ) (lp : Lp F) where
-  -- The result of the recovery for the kind `how`: all its steps fit, and the end has what they
-  -- compute and is proved; or the end is Refused with the first step of the recovery that does not
-  -- fit.
+  -- The result of the recovery, which computes an end of the kind `how` for the program from
+  -- `last`, which is read from the final dictionary. All its steps fit, and the end has what they
+  -- compute, and its lists prove it; or the end is Refused with the first step that does not fit:
+  -- a numerator or denominator that it computes exceeds `limit`.
   abbrev pub EndsWith : EndKind → Last → End F → Type 0
   EndsWith how last end =
       (LeadsTo value lp how last end × AllFit (steps_back value limit lp how last) × IsProved value lp end)
       ⊎ ((step : StepName) × (end ≡ Refused step) × FirstStop (steps_back value limit lp how last) step)
 
 module _ {F : Type 0} (value : F → Number) (limit : ℕ) (lp : Lp F) (iterlim : ℕ) (Allowed : Pivot → ℕ → Type 0) (Chosen : ℕ → Type 0) where
-  -- The end of a search at the dictionary d after this number of pivots.
+  -- The end of a search at the dictionary d after this number of pivots, of which `iterlim` is the
+  -- limit. `Allowed` says which pivots may be made, each with the row of its leaving variable, and
+  -- `Chosen` which variables may enter. A step fits if no numerator or denominator that it computes
+  -- exceeds `limit`.
   pub data EndsSoBy (pivots : ℕ) (d : Dictionary) (end : End F) : Type 0 where
     -- the search ends with a kind; it is broken off if the limit of pivots is met and a further
     -- pivot is required

@@ -42,11 +42,15 @@ pub record HasTurned (first : Dictionary) (pivots : List Pivot) (d : Dictionary)
   pub same_phase : AllAlong (IsOfPhase phase) (reached first (before ++ still)) following
   pub now : IsPhase d phase
 
--- variable q enters next: until the search has turned to Bland's rule, q has the greatest
--- coefficient; from then on, it is the least variable that improves
+-- variable q enters next, at the dictionary d, which the pivots so far reach from the dictionary
+-- `first`: if the search has not turned to Bland's rule in the phase of d, q has the greatest
+-- coefficient (`HasGreatest`); otherwise q is the improving variable with the least number
 abbrev pub IsNext : Dictionary → List Pivot → Dictionary → ℕ → Type 0
 IsNext first pivots d q = (¬ (HasTurned first pivots d) × HasGreatest d q) ⊎ (HasTurned first pivots d × IsChosen Bland d q)
 
--- an answer of a program under a limit of pivots by the rule of the largest coefficient
+-- an answer of a program in which `IsNext` says which variable may enter: that with the largest
+-- coefficient or, once the search has turned to Bland's rule, the one that this rule chooses;
+-- `iterlim` is the limit of pivots, and `limit` bounds the numerators and denominators that the
+-- solver computes with
 abbrev pub IsLargestAnswer : {F : Type 0} → (F → Number) → ℕ → Lp F → ℕ → Answer F → Type 0
 IsLargestAnswer value limit lp iterlim answer = IsAnswerByChoice value limit lp iterlim IsNext answer

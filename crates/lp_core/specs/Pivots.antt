@@ -67,24 +67,31 @@ IsChosen Legal d q = Improves d q
 abbrev pub NothingImproves : Dictionary → Type 0
 NothingImproves d = ¬ (OpeningIsRequired d) × ((v : ℕ) → ¬ (Improves d v))
 
--- all steps of the ratio test of p, the n-th pivot, fit under the limit; an opening pivot has none
+-- all steps of the ratio test of p, the n-th pivot, fit: no numerator or denominator that they
+-- compute exceeds `limit`; an opening pivot has no ratio test
 abbrev pub TestFits : ℕ → ℕ → Dictionary → Pivot → Type 0
 TestFits limit n d p = ¬ (OpeningIsRequired d) → AllFit (ratio_steps limit n d p.enter)
 
--- A chosen variable enters in the pivot p, and of the tied variables the least leaves, which is
--- variable 0 if its row ties. At the opening the least variable leaves among those with the least
--- constant.
+-- In the pivot p a chosen variable enters, unless p is the opening pivot. Of the variables whose
+-- rows tie in the ratio test, the one with the least number leaves; at the opening, of those whose
+-- rows have the least constant.
 pub record IsTaken (Chosen : ℕ → Type 0) (d : Dictionary) (p : Pivot) : Type 0 where
   pub enters : ¬ (OpeningIsRequired d) → Chosen p.enter
   pub leaves : (i : ℕ) → ¬ (OpeningIsRequired d) → Ties d p.enter i → p.leave ≤ basic_at d i
   pub opens : (i : ℕ) → OpeningIsRequired d → IsLeast d i → p.leave ≤ basic_at d i
 
--- p is a legal pivot in which a chosen variable enters and the least tied variable leaves; k is the
--- row of the variable that leaves
+-- p is a legal pivot at the dictionary d: the opening one of phase 1, in which variable 0 enters,
+-- or one in which a variable enters that improves the objective of the phase and is `Chosen`. Of
+-- the variables that may leave in it the least leaves: these tie in the ratio test, or have the
+-- least constant at the opening. k is the row of the variable that leaves
 abbrev pub IsAllowedBy : (ℕ → Type 0) → Dictionary → Pivot → ℕ → Type 0
 IsAllowedBy Chosen d p k = IsLegal d p k × IsTaken Chosen d p
 
--- a pivot that the rule allows; k is the row of the variable that leaves
+-- a pivot p that the rule allows at the dictionary d. Under Legal it is any legal pivot: the
+-- opening one of phase 1, in which variable 0 enters, or one in which an improving variable enters
+-- and a variable leaves that ties in the ratio test, variable 0 if it ties. Under Bland it is a
+-- legal pivot in which, unless it is the opening one, the least improving variable enters, and the
+-- least of those that may leave does so. k is the row of the variable that leaves
 abbrev pub IsAllowed : Rule → Dictionary → Pivot → ℕ → Type 0
 IsAllowed Bland d p k = IsAllowedBy (IsChosen Bland d) d p k
 IsAllowed Legal d p k = IsLegal d p k
@@ -96,28 +103,35 @@ IsAllowed Legal d p k = IsLegal d p k
 abbrev pub ByRule : Rule → List Pivot → Dictionary → Pivot → ℕ → Type 0
 ByRule rule done d p k = IsAllowed rule d p k
 
--- the pivots that a choice of the entering variable allows; `choice` depends on the first
--- dictionary, the pivots `done` so far, the dictionary d that they lead to, and the variable; of
--- the tied variables the least leaves
+-- the legal pivots p by a choice of the entering variable: an improving variable enters that
+-- `choice` allows, and of the variables that tie in the ratio test the least leaves; or p is the
+-- opening pivot of phase 1, in which variable 0 enters, and the least of the variables with the
+-- least constant leaves. `choice` depends on the dictionary `first` at the start, the pivots `done`
+-- so far, the dictionary d that they lead to, and the variable. k is the row of the variable that
+-- leaves
 abbrev pub ByChoice : (Dictionary → List Pivot → Dictionary → ℕ → Type 0) → Dictionary → List Pivot → Dictionary → Pivot → ℕ → Type 0
 ByChoice choice first done d p k = IsAllowedBy (choice first done d) d p k
 
 module _ (Allowed : List Pivot → Dictionary → Pivot → ℕ → Type 0) where
-  -- the pivots lead from d, to which the pivots `done` led, to the dictionary `last`: each is
-  -- allowed at the dictionary to which the pivots before it lead
+  -- the pivots lead from d, to which the pivots `done` led, to the dictionary `last`: each is one
+  -- that `Allowed` admits at the dictionary to which the pivots before it lead; k is the row of the
+  -- variable that leaves in it
   abbrev pub Leads : List Pivot → Dictionary → List Pivot → Dictionary → Type 0
   Leads done d [] last = last ≡ d
   Leads done d (p ∷ pivots) last = (k : ℕ) × Allowed done d p k × Leads (done ++ p ∷ []) (exchanged d p.enter k) pivots last
 
-  -- all steps of the pivots, which lead from d to `last` by `way`, fit under the limit; the first
-  -- of them is the n-th pivot
+  -- each step of arithmetic in these pivots, of the ratio tests and the exchanges, fits: no
+  -- numerator or denominator that it computes exceeds the limit. After the pivots `done` these
+  -- pivots lead from d to `last` by `way`, which has the row of each; the first of them is the n-th
+  -- pivot
   abbrev pub PivotsFit : ℕ → ℕ → (done : List Pivot) (d : Dictionary) (pivots : List Pivot) (last : Dictionary) → Leads done d pivots last → Type 0
   PivotsFit limit n done d [] last way = Unit {0}
   PivotsFit limit n done d (p ∷ pivots) last way =
       TestFits limit n d p × AllFit (exchange_steps limit n d p.enter way.0)
       × PivotsFit limit (n + 1) (done ++ p ∷ []) (exchanged d p.enter way.0) pivots last way.2
 
-  -- the pivots lead from d to `last`, and all their steps fit under the limit; the first of them is
-  -- the n-th pivot
+  -- the pivots lead, after the pivots `done`, from d to `last`, and each step of their arithmetic
+  -- fits: no numerator or denominator that it computes exceeds the limit. The first of these pivots
+  -- is the n-th pivot
   abbrev pub LeadsWithin : ℕ → ℕ → List Pivot → Dictionary → List Pivot → Dictionary → Type 0
   LeadsWithin limit n done d pivots last = (way : Leads done d pivots last) × PivotsFit limit n done d pivots last way

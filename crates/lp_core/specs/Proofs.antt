@@ -68,8 +68,9 @@ module _ {F : Type 0} (value : F → Number) (lp : Lp F) where
     pub reduced_costs : reduced ≡ map (λ j. reduced_cost value lp (objective_costs lp) duals j) (range_with_len 0 (length lp.columns))
     pub bound : dual_bound value lp duals ≡ Some (value_of_column levels lp.objective)
 
-  -- Infeasible by a Farkas combination of rows and bounds, with a factor for each row: the lower
-  -- bound that these factors give of 0, the objective without costs, is above 0.
+  -- Infeasible by a Farkas combination of rows and bounds, with a factor for each row (`duals`). An
+  -- objective without costs is 0 at each point, but the lower bound of it that these factors give
+  -- is above 0.
   pub record ProvesInfeasible (duals : List Number) : Type 0 where
     pub sized : length duals ≡ length lp.rows
     pub above : (bound : Number) × (low value lp no_costs duals ≡ Some bound) × (whole (pos 0) <ℚ bound)
@@ -94,8 +95,9 @@ module _ {F : Type 0} (value : F → Number) (lp : Lp F) where
     pub rows : row_levels ≡ row_sums levels
     pub along : IsRay ray
 
-  -- The lists of an end prove it from the program's rows and bounds. For an Interrupted end this
-  -- means only that its point is feasible, and no Refused end is proved.
+  -- The lists of an end, which is the answer of a solver, prove it from the program's rows and
+  -- bounds. For an Interrupted end, one at the limit of pivots, this means only that its point is
+  -- feasible. No Refused end is proved, one at a step whose numbers exceed their limit.
   abbrev pub IsProved : End F → Type 0
   IsProved (Optimal levels row_levels duals reduced) = ProvesOptimal (map value levels) (map value row_levels) (map value duals) (map value reduced)
   IsProved (Infeasible duals None) = ProvesInfeasible (map value duals)

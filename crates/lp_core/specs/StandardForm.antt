@@ -36,15 +36,17 @@ pub record StandardRow : Type 0 where
   pub entries : List (ℕ × Number)
   pub origin : RowOrigin
 
--- A program in standard form: each column with the number of its first variable and its shift; the
--- rows; and the objective to maximize, a constant and a coefficient for each variable from 1.
+-- A program in standard form: for each column the number of its first variable, and its shift,
+-- which says how variables that are at least 0 express the column; the rows; and the objective to
+-- maximize, a constant and a coefficient for each variable from 1.
 pub record Standard : Type 0 where
   pub columns : List (ℕ × Shift)
   pub rows : List StandardRow
   pub objective : List Number
   pub constant : Number
 
--- the shift of a column with these bounds
+-- how variables that are at least 0 express a column with these bounds: from its lower bound if it
+-- has one, else from its upper bound, else as the difference of two variables
 abbrev pub shift_of : Option Number → Option Number → Shift
 shift_of (Some lower) upper = from_lower lower
 shift_of None (Some upper) = from_upper upper
@@ -56,13 +58,15 @@ width (from_lower b) = 1
 width (from_upper b) = 1
 width free = 2
 
--- the bound from which a column with this shift is counted, or 0 if the column is free
+-- the bound b of a column with this shift, which is b plus or less a variable; 0 if the column is
+-- free
 abbrev pub base : Shift → Number
 base (from_lower b) = b
 base (from_upper b) = b
 base free = whole (pos 0)
 
--- each column's shift with the number of the column's first variable; that of the first column is n
+-- each column's shift, by which variables express the column, with the number of the first of these
+-- variables; this number is n for the first column
 abbrev pub numbered : ℕ → List Shift → List (ℕ × Shift)
 numbered n [] = []
 numbered n (s ∷ shifts) = (n, s) ∷ numbered (n + width s) shifts
@@ -89,15 +93,17 @@ point_of s y = map (λ column. shifted_back column y) s.columns
 abbrev pub negated_row : ℕ → StandardRow → StandardRow
 negated_row i r = record { right = neg_ℚ r.right; entries = map (λ e. (e.0, neg_ℚ e.1)) r.entries; origin = of_negated i }
 
--- the rows of the standard form for row i of the program, by its sense: r for an upper limit, the
--- negated r for a lower one, both for an equation, none for a nonbinding row
+-- the rows of the standard form for row i of the program, whose standard row is r, by its sense: r
+-- for an upper limit, the negated r for a lower one, both for an equation, none for a nonbinding
+-- row
 abbrev pub rows_by_sense : Sense → ℕ → StandardRow → List StandardRow
 rows_by_sense sense.E i r = r ∷ negated_row i r ∷ []
 rows_by_sense sense.L i r = r ∷ []
 rows_by_sense sense.G i r = negated_row i r ∷ []
 rows_by_sense sense.N i r = []
 
--- the row of column j if it has two bounds: its first variable v is at most their difference
+-- the row of column j if it has two bounds: the column's first variable, v, is at most the upper
+-- bound less the lower one
 abbrev pub bound_rows : ℕ → ℕ → Option Number → Option Number → List StandardRow
 bound_rows j v (Some lower) (Some upper) = record { right = upper -ℚ lower; entries = (v, whole (pos 1)) ∷ []; origin = of_bound j } ∷ []
 bound_rows j v lower upper = []
@@ -107,7 +113,8 @@ abbrev pub directed : Bool → Number → Number
 directed true x = x
 directed false x = neg_ℚ x
 
--- the first variable and the shift of column j; past the last column a free shift of variable 0
+-- the number of the first variable of column j, and its shift, by which variables express the
+-- column; past the last column variable 0 and the shift of a free column
 abbrev pub column_at : List (ℕ × Shift) → ℕ → ℕ × Shift
 column_at columns j = slice_index_or columns j (0, free)
 
@@ -118,13 +125,14 @@ objective_of count entries =
     map (λ v. sum_by_ℚ (λ e. if e.0 == v then e.1 else whole (pos 0)) entries) (range_with_len 1 count)
 
 module _ {F : Type 0} (value : F → Number) (lp : Lp F) where
-  -- for each column the number of its first variable, and its shift
+  -- for each column the number, from 1, of the first variable that expresses it, and its shift,
+  -- which says how variables do so
   abbrev pub columns_of : List (ℕ × Shift)
   columns_of = numbered 1 (map (λ (column : Column F). shift_of (bound_value value column.lower) (bound_value value column.upper)) lp.columns)
 
-  -- row i of the program as a row of the standard form, not negated: the variables express the
-  -- columns, and from the right side each coefficient times the bound that its column is counted
-  -- from is subtracted
+  -- row i of the program as a row of the standard form, not negated: variables replace each column,
+  -- which is its bound (`base`) plus or less a variable, or the difference of two variables; from
+  -- the right side each coefficient times this bound, 0 for a free column, is subtracted
   abbrev pub shifted_row : ℕ → Row F → StandardRow
   shifted_row i r =
       record {
@@ -144,7 +152,8 @@ module _ {F : Type 0} (value : F → Number) (lp : Lp F) where
   abbrev pub variables_of : ℕ
   variables_of = sum_by (λ (p : ℕ × Shift). width p.1) columns_of
 
-  -- the standard form of a program
+  -- the standard form of a program. Its objective is the column that the program optimizes, negated
+  -- if the program minimizes, as a constant and coefficients of variables
   abbrev pub standard_form : Standard
   standard_form =
       let z : ℕ × Shift = column_at columns_of lp.objective in
@@ -157,16 +166,17 @@ module _ {F : Type 0} (value : F → Number) (lp : Lp F) where
 
 -- ---- the recovery
 
--- What is read from a final dictionary, for all variables from number 0: their values; their
--- coefficients in the objective or, if the program is infeasible, in the row of variable 0; and
--- their changes along a ray.
+-- What is read from a final dictionary, for all variables from number 0, the artificial variable of
+-- phase 1: their values; their coefficients in the objective (`costs`), or in the row of variable 0
+-- if the program is infeasible; and their changes along a ray.
 pub record Last : Type 0 where
   pub values : List Number
   pub costs : List Number
   pub changes : List Number
 
--- the multiplier of row r of the standard form, from 0: the negated coefficient of its slack, which
--- is variable `variables` + 1 + r
+-- the multiplier of row r of the standard form, from 0: the negated coefficient, in `costs`, of the
+-- row's slack, which is variable `variables` + 1 + r; `variables` is the number of variables
+-- without slacks
 abbrev pub multiplier : ℕ → List Number → ℕ → Number
 multiplier variables costs r = neg_ℚ (value_of_column costs (variables + 1 + r))
 
@@ -193,8 +203,9 @@ reduced_by_bounds costs p v r (Some lower) None = value_of_column costs v
 reduced_by_bounds costs p v r None (Some upper) = neg_ℚ (value_of_column costs v)
 reduced_by_bounds costs p v r None None = whole (pos 0)
 
--- the reduced costs of these columns, each with the number of its first variable in `shifts`; r is
--- the standard form's row of the first column that has one
+-- the reduced costs of these columns, from the final coefficients `costs` of all variables and the
+-- multipliers p of the standard form's rows. `shifts` has, for each column, the number of its first
+-- variable and its shift; r is the standard form's row of the first column that has one
 abbrev pub reduced_from : {F : Type 0} → List Number → (ℕ → Number) → ℕ → List (ℕ × Shift) → List (Column F) → List Number
 reduced_from costs p r [] columns = []
 reduced_from costs p r (s ∷ shifts) [] = []
@@ -209,24 +220,28 @@ changed_back (v, from_upper b) changes = neg_ℚ (value_of_column changes v)
 changed_back (v, free) changes = value_of_column changes v -ℚ value_of_column changes (v + 1)
 
 module _ {F : Type 0} (value : F → Number) (lp : Lp F) (last : Last) where
-  -- the value of each column
+  -- the value of each column, from the values of the variables in the final dictionary (`last`)
   abbrev pub levels_back : List Number
   levels_back = point_of (standard_form value lp) last.values
 
-  -- the dual of each row at an optimum
+  -- the dual of each row at an optimum, from the coefficients of the slacks in the objective of the
+  -- final dictionary (`last`); negated if the program minimizes
   abbrev pub duals_back : List Number
   duals_back = map (directed lp.maximize) (duals_from (multiplier (variables_of value lp) last.costs) 0 lp.rows)
 
-  -- the reduced cost of each column at an optimum; in the standard form the rows for columns follow
-  -- those of the program's rows
+  -- the reduced cost of each column at an optimum, from the coefficients of the variables in the
+  -- objective of the final dictionary (`last`); negated if the program minimizes. In the standard
+  -- form the rows for columns follow those of the program's rows
   abbrev pub reduced_back : List Number
   reduced_back =
       map (directed lp.maximize) (reduced_from last.costs (multiplier (variables_of value lp) last.costs) (count_of_rows lp.rows) (columns_of value lp) lp.columns)
 
-  -- the Farkas factor of each row, if no point is feasible
+  -- the Farkas factor of each row, if no point is feasible: the negated dual that results from the
+  -- coefficients of the slacks in the final dictionary (`last`), in the row of variable 0
   abbrev pub farkas_back : List Number
   farkas_back = map neg_ℚ (duals_from (multiplier (variables_of value lp) last.costs) 0 lp.rows)
 
-  -- the change of each column along the ray
+  -- the change of each column along the ray, from the changes of the variables in the final
+  -- dictionary (`last`)
   abbrev pub ray_back : List Number
   ray_back = map (λ column. changed_back column last.changes) (columns_of value lp)

@@ -21,40 +21,44 @@ pub use Rattle.lp_core.specs.WellFormed.{count_of_rows}
 use Rattle.lp_core.specs.StandardForm.{Shift, from_lower, from_upper, free, base, column_at, columns_of, variables_of, rows_of_sense, rows_of_bounds, multiplier, Last, levels_back}
 use Rattle.lp_core.specs.Dictionary.{Dictionary, constant_at, entry_at, divided_entry}
 
--- A step that a solver makes, by its name, and whether it fits. Steps that always fit, as a product
--- or a sum with 0 does, may be in a list of steps or be omitted.
+-- A step of a solver's arithmetic, by its name, and whether it fits: no numerator or denominator
+-- that it computes exceeds the limit. Steps that always fit, as a product or a sum with 0 does, may
+-- be in a list of steps or be omitted.
 abbrev pub ExpectedStep : Type 0
 ExpectedStep = StepName × Bool
 
--- all these steps fit
+-- each of these steps of arithmetic fits: no numerator or denominator that it computes exceeds the
+-- limit
 abbrev pub AllFit : List ExpectedStep → Type 0
 AllFit steps = All (λ (step : ExpectedStep). step.1 ≡ true) steps
 
--- `name` is the first of these steps that does not fit.
+-- `name` is the first of these steps of arithmetic that does not fit, that is, computes a numerator
+-- or denominator above the limit.
 pub record FirstStop (steps : List ExpectedStep) (name : StepName) : Type 0 where
   pub before : List ExpectedStep
   pub following : List ExpectedStep
   pub split : steps ≡ before ++ (name, false) ∷ following
   pub fit : AllFit before
 
--- whether the product of two numbers fits under the limit
+-- whether the product of two numbers fits: its numerator and denominator are at most the limit
 abbrev pub product_fits : ℕ → Number → Number → Bool
 product_fits limit x y = fits limit (x *ℚ y)
 
--- whether the quotient of two numbers fits under the limit
+-- whether the quotient x/y fits: its numerator and denominator are at most the limit
 abbrev pub quotient_fits : ℕ → Number → Number → Bool
 quotient_fits limit x y = fits limit (x /ℚ y)
 
--- whether the difference of two numbers fits under the limit, that is, the sum of x and the negated
--- y
+-- whether the difference x - y fits, as the sum of x and the negated y: no numerator or denominator
+-- that the sum computes exceeds the limit
 abbrev pub difference_fits : ℕ → Number → Number → Bool
 difference_fits limit x y = sum_fits limit x (neg_ℚ y)
 
 -- ---- the standard form: each bound is taken out of a right side, entry by entry
 
--- the steps that take the bound b, from which column j is counted, out of the right side of
--- standard row r: the product of the coefficient a and b, then `right` less the product; none for a
--- free column
+-- the steps that take the bound b of column j, from 0, out of the right side of standard row r,
+-- from 1, as the column is b plus or less a variable: the product of the column's coefficient a and
+-- b, then `right`, the right side so far, less the product; none for a free column. A step's name
+-- has the row, the column from 1, and the kind (0: a product, 1: a difference)
 abbrev pub shifting : ℕ → ℕ → ℕ → Shift → Number → Number → List ExpectedStep
 shifting limit r j free a right = []
 shifting limit r j (from_lower b) a right =
@@ -62,23 +66,27 @@ shifting limit r j (from_lower b) a right =
 shifting limit r j (from_upper b) a right =
     (StandardStep r (j + 1) 0, product_fits limit a b) ∷ (StandardStep r (j + 1) 1, difference_fits limit right (a *ℚ b)) ∷ []
 
--- the steps on these entries of a row whose right side is `right` so far; r is the number of its
--- standard row, from 1
+-- the steps that take the bounds of columns out of the right side of a row, entry by entry; `right`
+-- is the right side so far, `columns` has the first variable of each column and its shift, which
+-- has the bound, and r is the number, from 1, of the first standard row that belongs to the row
 abbrev pub row_steps : {F : Type 0} → (F → Number) → ℕ → List (ℕ × Shift) → ℕ → Number → List (ℕ × F) → List ExpectedStep
 row_steps value limit columns r right [] = []
 row_steps value limit columns r right (e ∷ entries) =
     shifting limit r e.0 (column_at columns e.0).1 (value e.1) right
     ++ row_steps value limit columns r (right -ℚ value e.1 *ℚ base (column_at columns e.0).1) entries
 
--- the steps on these rows; r is the number of the first row's standard row, from 1; a nonbinding
--- row has no steps
+-- the steps that take the bounds of columns out of the right sides of these rows; `columns` has the
+-- first variable of each column and its shift, which has the bound, and r is the number, from 1, of
+-- the next standard row; a nonbinding row has no standard row and no steps
 abbrev pub rows_steps : {F : Type 0} → (F → Number) → ℕ → List (ℕ × Shift) → ℕ → List (Row F) → List ExpectedStep
 rows_steps value limit columns r [] = []
 rows_steps value limit columns r (row ∷ rows) =
     (if rows_of_sense row.sense == 0 then [] else row_steps value limit columns r (value row.right) row.entries)
     ++ rows_steps value limit columns (r + rows_of_sense row.sense) rows
 
--- the step on column j if it has two bounds: their difference, for the standard row r
+-- the step on column j, from 0, if it has two bounds: the upper bound less the lower one, for the
+-- standard row r, from 1. The step's name has the row, the column from 1, and the kind (1: a
+-- difference)
 abbrev pub bound_step : ℕ → ℕ → ℕ → Option Number → Option Number → List ExpectedStep
 bound_step limit r j (Some lower) (Some upper) = (StandardStep r (j + 1) 1, difference_fits limit upper lower) ∷ []
 bound_step limit r j lower upper = []
@@ -91,35 +99,42 @@ bounds_steps value limit r j (column ∷ columns) =
     bound_step limit r j (bound_value value column.lower) (bound_value value column.upper)
     ++ bounds_steps value limit (r + rows_of_bounds column.lower column.upper) (j + 1) columns
 
--- the steps that compute the standard form: those on rows, then those on columns with two bounds
+-- the steps that compute the standard form, whose rows they number from 1: those on rows, then
+-- those on columns with two bounds
 abbrev pub standard_steps : {F : Type 0} → (F → Number) → ℕ → Lp F → List ExpectedStep
 standard_steps value limit lp =
     rows_steps value limit (columns_of value lp) 1 lp.rows ++ bounds_steps value limit (1 + count_of_rows lp.rows) 0 lp.columns
 
 -- ---- a pivot: q enters in row k, both from 0; pivots and rows are numbered from 1
 
--- the steps of the ratio test for the entering variable q: for each row that limits q, in order,
--- its constant over its coefficient of q
+-- the steps of the ratio test for the entering variable q, in the pivot of number `pivot`: for each
+-- row whose coefficient of q is above 0, in order, its constant over this coefficient. A step's
+-- name has the number of the pivot, and the row from 1
 abbrev pub ratio_steps : ℕ → ℕ → Dictionary → ℕ → List ExpectedStep
 ratio_steps limit pivot d q =
     map (λ i. (Ratio pivot (i + 1), quotient_fits limit (constant_at d i) (entry_at d i q)))
     (filter (λ i. is_gt (number_cmp (entry_at d i q) (whole (pos 0)))) (range_with_len 0 (length d.basic)))
 
--- the steps on row k, whose variable leaves: each number, the constant first, is divided by the
--- row's coefficient of q
+-- the steps on row k, whose variable leaves, in the pivot of number `pivot`: each number, the
+-- constant first, is divided by the row's coefficient of the entering variable q. A step's name has
+-- the number of the pivot, the row from 1, the column c from 0, and the kind (0: a quotient)
 abbrev pub pivot_row_steps : ℕ → ℕ → Dictionary → ℕ → ℕ → List ExpectedStep
 pivot_row_steps limit pivot d q k =
     map (λ c. (Exchange pivot (k + 1) c 0, quotient_fits limit (d.numbers k c) (entry_at d k q))) (range_with_len 0 (d.variables + 2))
 
--- the steps on row i, another row or the objective: for each number, the product of the row's
--- coefficient of q and the divided number of row k, then the difference
+-- the steps on row i, another row or the objective, in the pivot of number `pivot`, in which
+-- variable q enters and the variable of row k leaves. For each number of row i, the first is the
+-- product of row i's coefficient of q and the number of row k divided by row k's coefficient of q,
+-- and the second is row i's number less this product. A step's name has the number of the pivot,
+-- the row from 1, the column c from 0, and the kind (0: a product, 1: a difference)
 abbrev pub other_row_steps : ℕ → ℕ → Dictionary → ℕ → ℕ → ℕ → List ExpectedStep
 other_row_steps limit pivot d q k i =
     flat_map (λ c. (Exchange pivot (i + 1) c 0, product_fits limit (entry_at d i q) (divided_entry d q k c)) ∷ (Exchange pivot (i + 1) c 1, difference_fits limit (d.numbers i c) (entry_at d i q *ℚ divided_entry d q k c)) ∷ [])
     (range_with_len 0 (d.variables + 2))
 
--- the steps of an exchange: those on the row of the leaving variable, then those on each other row,
--- with the objective last
+-- the steps of an exchange, in the pivot of number `pivot`, in which variable q enters and the
+-- variable of row k leaves: those on row k, then those on each other row, of which the objective is
+-- the last
 abbrev pub exchange_steps : ℕ → ℕ → Dictionary → ℕ → ℕ → List ExpectedStep
 exchange_steps limit pivot d q k =
     pivot_row_steps limit pivot d q k
@@ -128,14 +143,17 @@ exchange_steps limit pivot d q k =
 -- ---- the recovery; places count from 0
 
 -- the step that computes the value of column j, by its shift: the sum or difference of the bound b
--- and variable v, or the difference of two variables; y has the values of variables
+-- and variable v, or the difference of variables v and v + 1; y has the values of variables. The
+-- step's name has the list (0: the values of columns), the index j in it, the entry (0: none), and
+-- the kind (1: a sum or a difference)
 abbrev pub level_step : ℕ → ℕ → ℕ × Shift → List Number → ExpectedStep
 level_step limit j (v, from_lower b) y = (Recover 0 j 0 1, sum_fits limit b (value_of_column y v))
 level_step limit j (v, from_upper b) y = (Recover 0 j 0 1, difference_fits limit b (value_of_column y v))
 level_step limit j (v, free) y = (Recover 0 j 0 1, difference_fits limit (value_of_column y v) (value_of_column y (v + 1)))
 
 -- the steps that compute the sum of row i at the point x, from its entry e on, where s is the sum
--- so far: for each entry the product, then the sum
+-- so far: for each entry the product, then the sum. A step's name has the list (1: the sums of
+-- rows), the index i in it, the entry e, and the kind (0: a product, 1: a sum)
 abbrev pub row_level_steps : {F : Type 0} → (F → Number) → ℕ → ℕ → ℕ → Number → List (ℕ × F) → List Number → List ExpectedStep
 row_level_steps value limit i e s [] x = []
 row_level_steps value limit i e s (p ∷ entries) x =
@@ -143,8 +161,9 @@ row_level_steps value limit i e s (p ∷ entries) x =
     ∷ (Recover 1 i e 1, sum_fits limit s (value p.1 *ℚ value_of_column x p.0)) ∷ row_level_steps value limit i (e + 1) (s +ℚ value p.1 *ℚ value_of_column x p.0) entries x
 
 -- the steps that compute the duals of rows, of which the first is row i: a difference for an
--- equation, none for another; p has the multipliers of standard rows, and r is the first that
--- belongs to row i
+-- equation, none for another; p has the multipliers of standard rows, and r is the first standard
+-- row that belongs to row i. A step's name has the list (2: the duals), the index i in it, the
+-- entry (0: none), and the kind (1: a difference)
 abbrev pub dual_steps : {F : Type 0} → ℕ → (ℕ → Number) → ℕ → ℕ → List (Row F) → List ExpectedStep
 dual_steps limit p i r [] = []
 dual_steps limit p i r (row ∷ rows) =
@@ -152,10 +171,11 @@ dual_steps limit p i r (row ∷ rows) =
     ++ dual_steps limit p (i + 1) (r + rows_of_sense row.sense) rows
 
 -- the steps that compute the reduced costs of columns, of which the first is column j. A column
--- with two bounds has a row in the standard form: its step is the sum of the coefficient of its
--- variable in the priced row of the final dictionary (`costs`, by variable) and the multiplier of
--- its row (p, by row). Another column has no step. Row r is the next row of a column, that of
--- column j if it has one. In the name of a step 3 means reduced costs, and 1 a sum.
+-- with two bounds has a row in the standard form: its step is the sum of two numbers, the
+-- coefficient of its variable, whose number `shifts` has, in the objective of the final dictionary
+-- (`costs`, by variable), and the multiplier of its row (p, by row). Another column has no step.
+-- Row r is the next row of a column, that of column j if it has one. A step's name has the list (3:
+-- the reduced costs), the index j in it, the entry (0: none), and the kind (1: a sum).
 abbrev pub reduced_steps : {F : Type 0} → ℕ → List Number → (ℕ → Number) → ℕ → ℕ → List (ℕ × Shift) → List (Column F) → List ExpectedStep
 reduced_steps limit costs p j r [] columns = []
 reduced_steps limit costs p j r (s ∷ shifts) [] = []
@@ -164,50 +184,59 @@ reduced_steps limit costs p j r (s ∷ shifts) (column ∷ columns) =
     ++ reduced_steps limit costs p (j + 1) (r + rows_of_bounds column.lower column.upper) shifts columns
 
 -- the step that computes the change of column j along a ray: the difference of its two variables'
--- changes if it is free, else none
+-- changes if it is free, else none. The step's name has the list (4: the ray), the index j in it,
+-- the entry (0: none), and the kind (1: a difference)
 abbrev pub ray_step : ℕ → ℕ → ℕ × Shift → List Number → List ExpectedStep
 ray_step limit j (v, from_lower b) changes = []
 ray_step limit j (v, from_upper b) changes = []
 ray_step limit j (v, free) changes = (Recover 4 j 0 1, difference_fits limit (value_of_column changes v) (value_of_column changes (v + 1))) ∷ []
 
 module _ {F : Type 0} (value : F → Number) (limit : ℕ) (lp : Lp F) (last : Last) where
-  -- the steps that compute the columns' values
+  -- the steps that compute the columns' values from the variables' values in the final dictionary
+  -- (`last`)
   abbrev pub levels_steps : List ExpectedStep
   levels_steps = map (λ (p : ℕ × (ℕ × Shift)). level_step limit p.0 p.1 last.values) (enumerate_from 0 (columns_of value lp))
 
-  -- the steps that compute the rows' sums at the columns' values
+  -- the steps that compute the rows' sums at the columns' values, which result from the final
+  -- dictionary (`last`)
   abbrev pub row_levels_steps : List ExpectedStep
   row_levels_steps = flat_map (λ (p : ℕ × Row F). row_level_steps value limit p.0 0 (whole (pos 0)) p.1.entries (levels_back value lp last)) (enumerate_from 0 lp.rows)
 
-  -- the steps that compute the duals, or the factors of rows if no point is feasible
+  -- the steps that compute the duals, or the Farkas factors of rows if no point is feasible, from
+  -- the final dictionary (`last`)
   abbrev pub duals_steps : List ExpectedStep
   duals_steps = dual_steps limit (multiplier (variables_of value lp) last.costs) 0 0 lp.rows
 
-  -- the steps that compute the columns' reduced costs
+  -- the steps that compute the columns' reduced costs from the final dictionary (`last`)
   abbrev pub reduced_costs_steps : List ExpectedStep
   reduced_costs_steps = reduced_steps limit last.costs (multiplier (variables_of value lp) last.costs) 0 (count_of_rows lp.rows) (columns_of value lp) lp.columns
 
-  -- the steps that compute the columns' changes along a ray
+  -- the steps that compute the columns' changes along a ray from the variables' changes (`last`)
   abbrev pub ray_steps : List ExpectedStep
   ray_steps = flat_map (λ (p : ℕ × (ℕ × Shift)). ray_step limit p.0 p.1 last.changes) (enumerate_from 0 (columns_of value lp))
 
-  -- the steps of the recovery of an optimum
+  -- the steps that compute the columns' values, the rows' sums, the duals and the reduced costs of
+  -- an optimum from the final dictionary (`last`)
   abbrev pub optimal_steps : List ExpectedStep
   optimal_steps = levels_steps ++ row_levels_steps ++ duals_steps ++ reduced_costs_steps
 
-  -- the steps of the recovery if no point is feasible
+  -- the steps that compute the Farkas factors from the final dictionary (`last`), if no point is
+  -- feasible
   abbrev pub infeasible_steps : List ExpectedStep
   infeasible_steps = duals_steps
 
-  -- the steps of the recovery of an unbounded end
+  -- the steps that compute the point, its rows' sums and the ray of an unbounded end from the final
+  -- dictionary (`last`)
   abbrev pub unbounded_steps : List ExpectedStep
   unbounded_steps = levels_steps ++ row_levels_steps ++ ray_steps
 
-  -- the steps of the recovery of an interrupted end
+  -- the steps that compute the point of an interrupted end and its rows' sums from the final
+  -- dictionary (`last`)
   abbrev pub interrupted_steps : List ExpectedStep
   interrupted_steps = levels_steps ++ row_levels_steps
 
--- the steps of the recovery, in order, by the kind of end
+-- the steps, in order, that compute the lists of an answer from the final dictionary (`last`), by
+-- the kind of end: optimal, infeasible, unbounded or interrupted
 abbrev pub steps_back : {F : Type 0} → (F → Number) → ℕ → Lp F → EndKind → Last → List ExpectedStep
 steps_back value limit lp kind.Optimal last = optimal_steps value limit lp last
 steps_back value limit lp kind.Infeasible last = infeasible_steps value limit lp last
@@ -218,7 +247,8 @@ steps_back value limit lp kind.Interrupted last = interrupted_steps value limit 
 -- steps count from 0
 
 -- the sum s plus each entry's coefficient times the value of its column in x; or Err with the first
--- step that does not fit; n is the number of the next step
+-- step that does not fit, that is, computes a numerator or denominator above the limit. Each entry
+-- has two steps, a product and a sum; n is the number of the next step
 abbrev pub checked_sum : {F : Type 0} → (F → Number) → ℕ → List Number → ℕ → Number → List (ℕ × F) → Result Number StepName
 checked_sum value limit x n s [] = Ok s
 checked_sum value limit x n s (e ∷ entries) =
@@ -262,15 +292,18 @@ abbrev pub asks_nothing : Sense → Bool
 asks_nothing sense.N = true
 asks_nothing s = false
 
--- the check of a row, and of the rows after it, whose answer is `rest`: Err with the step at which
--- the row's sum stopped; Ok false if the sum does not compare with `right` as the sense s says;
--- else `rest`
+-- the answer of the check of a row and of the rows after it. The first argument is the row's sum,
+-- or Err with the step that does not fit under the limit; `rest` is the answer for the rows after
+-- it. The answer is this Err; Ok false if the sum does not compare with `right` as the sense s
+-- says; else `rest`
 abbrev pub compared : Result Number StepName → Sense → Number → Result Bool StepName → Result Bool StepName
 compared (Ok sum) s right rest = if keeps_sense s sum right then rest else Ok false
 compared (Err step) s right rest = Err step
 
--- Ok with whether the point x satisfies each of these rows, or Err with the first step that does
--- not fit; n is the number of the next step, and a nonbinding row has none
+-- the check of these rows at the point x, in order: Ok false at the first row that x does not
+-- satisfy, Err with the first step that computes a numerator or denominator above the limit,
+-- whichever comes first, and Ok true if neither comes; n is the number of the next step, and a
+-- nonbinding row has no steps
 abbrev pub checked_rows : {F : Type 0} → (F → Number) → ℕ → List Number → ℕ → List (Row F) → Result Bool StepName
 checked_rows value limit x n [] = Ok true
 checked_rows value limit x n (row ∷ rows) =
@@ -278,12 +311,14 @@ checked_rows value limit x n (row ∷ rows) =
     checked_rows value limit x n rows else
     compared (checked_sum value limit x n (whole (pos 0)) row.entries) row.sense (value row.right) (checked_rows value limit x (n + 2 * length row.entries) rows)
 
--- how many steps the check of these rows has at most
+-- how many steps the check of these rows has at most: two for each entry of a row, and none for a
+-- nonbinding row
 abbrev pub steps_of_rows : {F : Type 0} → List (Row F) → ℕ
 steps_of_rows [] = 0
 steps_of_rows (row ∷ rows) = (if asks_nothing row.sense then 0 else 2 * length row.entries) + steps_of_rows rows
 
 -- the check of the point x: Ok false if a value is outside its column's bounds; else the check of
--- the rows
+-- the rows, with steps from 0: Ok says whether x satisfies them, Err has the first step that
+-- computes a numerator or denominator above the limit
 abbrev pub checked_point : {F : Type 0} → (F → Number) → ℕ → Lp F → List Number → Result Bool StepName
 checked_point value limit lp x = if bounds_hold value x 0 lp.columns then checked_rows value limit x 0 lp.rows else Ok false

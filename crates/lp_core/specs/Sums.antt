@@ -14,6 +14,7 @@ value_of_column x j = slice_index_or x j (whole (pos 0))
 abbrev pub column_coefficient : {F : Type 0} → (F → Number) → List (ℕ × F) → ℕ → Number
 column_coefficient value entries j = sum_by_ℚ (λ e. if e.0 == j then value e.1 else whole (pos 0)) entries
 
--- the sum of a row at the point x: each entry's coefficient times the value of its column
+-- the sum of a row at the point x: the sum, over its entries, of the coefficient times the value of
+-- its column
 abbrev pub row_sum : {F : Type 0} → (F → Number) → List (ℕ × F) → List Number → Number
 row_sum value entries x = sum_by_ℚ (λ e. value e.1 *ℚ value_of_column x e.0) entries

@@ -44,8 +44,8 @@ pub record AreRowEntries {F : Type 0} (value : F → Number) (columns : ℕ) (en
   pub not_zero : All (λ (e : ℕ × F). value e.1 ≢ whole (pos 0)) entries
 
 -- A well-formed program: its objective is one of its columns, the keys of columns differ and those
--- of rows too, each row's entries are in order, and the standard form has at most 1,500 rows and
--- 3,000 variables.
+-- of rows too, each row's entries ascend by column, name columns of the program and are not 0, and
+-- the standard form has at most 1,500 rows and 3,000 variables, slacks not counted.
 pub record IsWellFormed {F : Type 0} (value : F → Number) (lp : Lp F) : Type 0 where
   pub objective : lp.objective < length lp.columns
   pub columns_differ : AllPairs (λ (a b : Column F). a.key ≢ b.key) lp.columns

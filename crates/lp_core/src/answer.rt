@@ -3,7 +3,8 @@ use crate::sequence::Sequence;
 use thiserror::Error;
 
 /// One pivot of the simplex method: the variables that enter and leave the basis, by their numbers
-/// in the standard form.
+/// in the standard form. Number 0 is the artificial variable; the variables of the columns follow
+/// from 1, and then the slacks.
 #[derive(Clone, Copy)]
 pub struct Pivot {
     /// The variable that enters the basis, by its number in the standard form.
@@ -23,7 +24,7 @@ pub enum Rule {
 }
 
 /// A step on the way from a program to its answer: a product, quotient, sum or difference, which
-/// may not fit under the limit of the numbers.
+/// may not fit under the field's limit of numerators and denominators.
 ///
 /// A field `part` is 0 for a product or a quotient, and 1 for a sum or a difference; in `Check` the
 /// field is the number of the step, from 0.
@@ -139,7 +140,7 @@ pub enum End<F> {
         /// The sum of each row; empty in phase 1.
         row_levels: Sequence<F>,
     },
-    /// A step does not fit under the limit of the numbers.
+    /// A step does not fit under the field's limit of numerators and denominators.
     Refused {
         /// The step.
         step: StepName,

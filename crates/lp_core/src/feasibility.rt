@@ -130,10 +130,11 @@ fn keep_rows<F: ExactField>(rows: &[Row<F>], x: &[F]) -> Result<bool, StepName>
 /// each row compares with the row's right side as the row's sense says. `x` has the value of each
 /// column, in the order of the columns.
 ///
-/// The bounds are compared first, and then the rows, in order. Each entry of each binding row has
-/// two steps, a product and a sum, which are named `Check` and numbered from 0 over all rows. The
-/// first bound or row that is not satisfied ends the check with `Ok(false)`. The first step whose
-/// result does not fit under the limit of the field ends the check, and is the error.
+/// The bounds are compared first, and then the rows, in order. Each entry of each binding row (any
+/// but one of the sense N, `=n=`) has two steps, a product and a sum. Each step is named `Check`
+/// with its number, counted from 0 over all steps of the binding rows. The first bound or row that
+/// is not satisfied ends the check with `Ok(false)`. The first step that does not fit under the
+/// field's limit of numerators and denominators ends the check, and is the error.
 pub fn feasible_at<F: ExactField>(lp: &Lp<F>, x: &[F]) -> Result<bool, StepName>
     requires well_formed { IsWellFormed F.value lp.now }
     requires sized { length x.now ≡ length lp.now.columns }

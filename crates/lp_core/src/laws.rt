@@ -17,9 +17,10 @@ ghost use Rattle.lp_core.specs.Proofs.{ProvesOptimal, ProvesInfeasible, ProvesCr
 
 use gq_field::ExactField;
 
-/// Weak duality: no feasible point has a better objective than the bound that the dual values of
-/// the rows give. So no feasible point is better than an optimum that comes with its certificate
-/// (Chvatal, Linear Programming, chapter 5).
+/// Weak duality: no feasible point has a better objective than the bound that `duals`, a factor for
+/// each row, give if they give one: a lower bound when minimizing, an upper one when maximizing. So
+/// no feasible point is better than an optimum that comes with its certificate (Chvatal, Linear
+/// Programming, chapter 5).
 pub fn weak_duality<F: ExactField>()
     ensures least { (lp : Lp F) (duals x : List Number) (bound : Number) →
         IsWellFormed F.value lp → Feasible F.value lp x → lp.maximize ≡ false →
@@ -45,15 +46,17 @@ pub fn farkas<F: ExactField>()
         ProvesInfeasible F.value lp duals → ¬ (Feasible F.value lp x) }
 {}
 
-/// If the lower bound of a column exceeds its upper bound, no point is feasible.
+/// The certificate of crossed bounds: column `j` is the first whose lower bound exceeds its upper
+/// bound, and each of `duals`, one for each row, is 0. Then no point is feasible.
 pub fn crossed_bounds<F: ExactField>()
     ensures { (lp : Lp F) (j : ℕ) (duals x : List Number) →
         ProvesCrossed F.value lp j duals → ¬ (Feasible F.value lp x) }
 {}
 
-/// The certificate of an unbounded end, a point and a ray. The point plus each nonnegative multiple
-/// of the ray is feasible. For each number, one of these sums has an objective that is at most this
-/// number when minimizing, and at least this number when maximizing.
+/// The certificate of an unbounded end: a point (`levels`), the sum of each row at the point
+/// (`row_levels`), and a ray. The point plus each nonnegative multiple of the ray is feasible. For
+/// each number, one of these points has an objective that is at most this number when minimizing,
+/// and at least this number when maximizing.
 pub fn unbounded_ray<F: ExactField>()
     ensures feasible { (lp : Lp F) (levels row_levels ray : List Number) (t : Number) →
         IsWellFormed F.value lp → ProvesUnbounded F.value lp levels row_levels ray →
@@ -66,9 +69,10 @@ pub fn unbounded_ray<F: ExactField>()
         (t : Number) × (whole (pos 0) ≤ℚ t) × (goal ≤ℚ value_of_column (further levels t ray) lp.objective) }
 {}
 
-/// Answers under other conditions. An answer under Bland's rule is also one under the rule Legal,
-/// which lets every improving variable enter (`legal`). An answer that ends as Optimal is also an
-/// answer under each other limit of pivots that is at least its number of pivots (`within`).
+/// Answers under other conditions; an answer is the pivots of a search and how the search ends. An
+/// answer under Bland's rule is also one under the rule Legal, which lets every improving variable
+/// enter (`legal`). An answer that ends as Optimal is also an answer under each other limit of
+/// pivots that is at least its number of pivots (`within`).
 pub fn answers_too<F: ExactField>()
     ensures legal { (lp : Lp F) (iterlim : ℕ) (answer : Answer F) →
         IsAnswer F.value F.limit lp iterlim Bland answer → IsAnswer F.value F.limit lp iterlim Legal answer }

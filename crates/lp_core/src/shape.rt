@@ -107,8 +107,8 @@ fn have_entries<F: ExactField>(rows: &[Row<F>], columns: usize) -> bool
     true
 }
 
-/// How many rows a row of this sense has in the standard form: two for an equation, one for an
-/// inequality, none for a nonbinding row (`=n=`).
+/// How many rows a row of this sense has in the standard form: two for an equality (`=e=`), one for
+/// an inequality (`=l=` or `=g=`), none for a nonbinding row (`=n=`).
 pub fn rows_by_sense(sense: Sense) -> usize
     ensures { result ≡ rows_of_sense sense }
 {

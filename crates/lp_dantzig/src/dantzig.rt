@@ -18,8 +18,9 @@ use std::alloc::{AllocError, Global};
 use std::marker::Model;
 
 /// Dantzig's solver: the variable that improves with the greatest coefficient enters, and of those
-/// that tie in the ratio test the one with the least number leaves. After a long run of degenerate
-/// pivots it turns to Bland's rule, which does not cycle.
+/// that tie in the ratio test the one with the least number leaves. After as many successive
+/// degenerate pivots of one phase as there are variables, slacks and variable 0 included, it
+/// follows Bland's rule to the end of the phase.
 #[derive(Drop)]
 pub struct Dantzig {
     taken: Vec<Sequence<Pivot>>,

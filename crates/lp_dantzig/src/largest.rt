@@ -7,8 +7,8 @@ use lp_dict::Dict;
 use lp_simplex::Picking;
 
 /// The rule of the largest coefficient: the variable enters that improves with the greatest
-/// coefficient in the priced row, and of several such the least (Chvatal, Linear Programming,
-/// chapter 2). It remembers no pivots.
+/// coefficient in the priced row, and of several such the one with the least number (Chvatal,
+/// Linear Programming, chapter 2). It remembers no pivots.
 #[derive(Drop)]
 pub(crate) struct Largest;
 

@@ -32,18 +32,21 @@ abbrev pub tableau : {F : Type 0} → (F → Number) → Body F → Tableau F
 tableau value b =
     record { variables = (kept value b).variables; basic = (kept value b).basic; body = b; upcoming = upcoming_of b }
 
--- the dictionary of a tableau; the row after the last is the objective
+-- the dictionary of a tableau, with the numbers of the stored dictionary; the row after those of
+-- the basic variables is the objective
 abbrev pub dictionary : {F : Type 0} → (F → Number) → Tableau F → Dictionary
 dictionary value t = record { variables = t.variables; basic = t.basic; numbers = (kept value t.body).numbers }
 
--- the bound of the integer rows is at most the limit of the field; fractions have no such bound
+-- the bound on the size of the integers, if integer rows are stored, is at most the field's limit
+-- on the size of numbers; fractions have no such bound
 abbrev pub IsWithinField : {F : Type 0} → ℕ → Body F → Type 0
 IsWithinField limit (body.Whole w upcoming) = w.bound ≤ limit
 IsWithinField limit (body.Exact t) = Unit {0}
 
 -- The invariant of a stored dictionary: it satisfies `IsProper`, the invariant of a program's
--- dictionaries; it has no more rows than variables; the bound of its integer rows is at most the
--- limit of the field; and the opening pivot may be required only before the first pivot.
+-- dictionaries; it has no more rows than variables other than 0; the bound on the size of its
+-- integers, if it stores integer rows, is at most the field's limit on the size of numbers; and the
+-- opening pivot, in which variable 0 enters, may be required only before the first pivot.
 pub record IsDictInvariant {F : Type 0} (value : F → Number) (limit : ℕ) (b : Body F) : Type 0 where
   pub proper : IsProper (kept value b)
   pub few : length (kept value b).basic ≤ (kept value b).variables

@@ -30,7 +30,9 @@ use std::alloc::{AllocError, Global};
 use std::marker::Model;
 
 /// A dictionary of the simplex method: an equation for each basic variable, which is its row, and
-/// one for the objective (Chvatal, Linear Programming, chapters 2 and 3).
+/// one for the objective (Chvatal, Linear Programming, chapters 2 and 3). In a row the sum of the
+/// coefficients times the variables equals the constant. The objective equals its sum less its
+/// constant.
 ///
 /// The rows are stored in one of two forms: as integers over a common denominator for each row, as
 /// long as these integers are small, and from the first pivot at which some are not, as reduced
@@ -86,9 +88,11 @@ impl<F: ExactField> Dict<F> {
         }
     }
 
-    /// A law, with an empty body: what is true of each dictionary. Every basic variable occurs in
-    /// its own row alone, with coefficient 1; there are no more rows than the greatest number of a
-    /// variable; and the number of a column has at most 32 bits.
+    /// A law, with an empty body: what is true of each dictionary. The basic variables are
+    /// distinct, and each occurs in its own row alone, with coefficient 1. If the opening pivot, in
+    /// which variable 0 enters, is required, variable 0 has coefficient -1 in each row. While
+    /// variable 0 is basic, its constant is above 0. There are no more rows than the greatest
+    /// number of a variable, and the number of a column has at most 32 bits.
     pub fn keeps(&self)
         ensures proper { IsProper (dictionary F.value self.now) }
         ensures few { length self.now.basic ≤ self.now.variables }
@@ -121,8 +125,9 @@ impl<F: ExactField> Dict<F> {
     }
 
     /// The number at a column of a row. `row` counts the rows from 0, and the objective follows the
-    /// last one. Column 0 is the constant, and variable v has column v + 1. A row of integers is
-    /// read without a search, a row of fractions by bisection.
+    /// last one. Column 0 is the constant, and variable v has column v + 1. In a row the sum of the
+    /// coefficients times the variables equals the constant. The objective equals its sum less its
+    /// constant. A row of integers is read without a search, a row of fractions by bisection.
     pub fn number(&self, row: usize, column: usize) -> F
         requires row { row ≤ length self.now.basic }
         requires column { column ≤ self.now.variables + 1 }
@@ -136,7 +141,9 @@ impl<F: ExactField> Dict<F> {
 
     /// The number at a column of a row, as a numerator over a denominator above 0, which may have a
     /// common factor, since no division is made. `row` counts the rows from 0, and the objective
-    /// follows the last one. Column 0 is the constant, and variable v has column v + 1.
+    /// follows the last one. Column 0 is the constant, and variable v has column v + 1. In a row
+    /// the sum of the coefficients times the variables equals the constant. The objective equals
+    /// its sum less its constant.
     #[inline(always)]
     pub fn fraction(&self, row: usize, column: usize) -> (i128, u128)
         requires row { row ≤ length self.now.basic }
@@ -156,8 +163,9 @@ impl<F: ExactField> Dict<F> {
         }
     }
 
-    /// The phase of the simplex method: 1 while variable 0 is basic or the opening pivot is
-    /// required, and otherwise 2. If no right side is below 0, the phase is 2 from the start.
+    /// The phase of the simplex method: 1 while variable 0 is basic or the opening pivot, in which
+    /// variable 0 enters, is required, and otherwise 2. If no right side is below 0, the phase is 2
+    /// from the start.
     pub fn phase(&self) -> u8
         ensures { IsPhase (dictionary F.value self.now) result }
     {
@@ -180,8 +188,9 @@ impl<F: ExactField> Dict<F> {
         }
     }
 
-    /// The coefficient of the variable `other` in the row in which the variable `basic` is basic.
-    /// The result is 0 if `basic` is not basic, if `other` is basic, and if `other` is no variable.
+    /// The coefficient of the variable `other` in the row in which the variable `basic` is basic,
+    /// where the sum of the coefficients times the variables equals the constant. The result is 0
+    /// if `basic` is not basic, if `other` is basic, and if `other` is no variable.
     pub fn entry(&self, basic: u32, other: u32) -> F
         ensures row { (k : ℕ) → slice_get self.now.basic k ≡ Some basic → ¬ (Contains self.now.basic other) → F.value result ≡
             entry_at (dictionary F.value self.now) k other }
@@ -196,7 +205,8 @@ impl<F: ExactField> Dict<F> {
     }
 
     /// The coefficient of variable `v` in the priced row, which is the row of variable 0 while
-    /// variable 0 is basic, and otherwise the objective. The result is 0 if `v` is basic or no
+    /// variable 0 is basic, and otherwise the objective. In the row of variable 0 the sum of the
+    /// coefficients times the variables equals the constant. The result is 0 if `v` is basic or no
     /// variable.
     pub fn coefficient(&self, v: u32) -> F
         ensures priced { (k : ℕ) → IsPriced (dictionary F.value self.now) k → ¬ (Contains self.now.basic v) → F.value result ≡
@@ -212,7 +222,8 @@ impl<F: ExactField> Dict<F> {
 
     /// Whether variable `v` improves: it is not basic and not variable 0, and its coefficient in
     /// the priced row is above 0. The priced row is that of variable 0 while variable 0 is basic,
-    /// and otherwise the objective. False if `v` is no variable.
+    /// and otherwise the objective. A row equates the sum of its terms with a constant, so variable
+    /// 0 falls as such a variable rises. False if `v` is no variable.
     pub fn improves(&self, v: u32) -> bool
         ensures { IsTrue result ↔ Improves (dictionary F.value self.now) v }
     {
@@ -242,9 +253,12 @@ impl<F: ExactField> Dict<F> {
         }
     }
 
-    /// The variable with the least number of those that improve, that is, have a coefficient above
-    /// 0 in the objective of the phase; `None` exactly if none improves. The opening pivot must not
-    /// be required.
+    /// The variable with the least number of those that improve, that is, are neither basic nor
+    /// variable 0 and have a coefficient above 0 in the priced row; `None` exactly if none
+    /// improves. The priced row is that of variable 0 while variable 0 is basic, and otherwise the
+    /// objective. A row equates the sum of its terms with a constant, so variable 0 falls as such a
+    /// variable rises. The opening pivot must not be required, that is, no row's constant is below
+    /// 0.
     pub fn entering(&self) -> Option<u32>
         requires { ¬ (OpeningIsRequired (dictionary F.value self.now)) }
         ensures { MatchOption result ((v : ℕ) → ¬ (Improves (dictionary F.value self.now) v))
@@ -257,9 +271,11 @@ impl<F: ExactField> Dict<F> {
     }
 
     /// The variable that improves with the greatest coefficient in the priced row, and of several
-    /// such variables the one with the least number; `None` exactly if none improves. The priced
-    /// row, which is visited once, is that of variable 0 while variable 0 is basic, and otherwise
-    /// the objective. The opening pivot must not be required.
+    /// such variables the one with the least number; `None` exactly if none improves. A variable
+    /// improves if it is neither basic nor variable 0 and its coefficient is above 0. The priced
+    /// row is that of variable 0 while variable 0 is basic, and otherwise the objective. A row
+    /// equates the sum of its terms with a constant, so variable 0 falls as such a variable rises.
+    /// The opening pivot must not be required, that is, no row's constant is below 0.
     pub fn greatest(&self) -> Option<u32>
         requires { ¬ (OpeningIsRequired (dictionary F.value self.now)) }
         ensures { MatchOption result ((v : ℕ) → ¬ (Improves (dictionary F.value self.now) v)) (HasGreatest (dictionary F.value self.now)) }
@@ -270,12 +286,13 @@ impl<F: ExactField> Dict<F> {
         }
     }
 
-    /// The variable that leaves when the variable `enter`, which improves, enters: of those that
-    /// tie in the ratio test the one with the least number. `None` exactly if no row limits the
-    /// rise of `enter`.
+    /// The variable that leaves when the variable `enter` enters: of those that tie in the ratio
+    /// test the one with the least number. `None` exactly if no row limits the rise of `enter`. The
+    /// caller must ensure that `enter` improves (`improves`): while variable 0 is basic, its rise
+    /// lowers variable 0; otherwise its rise raises the objective.
     ///
-    /// The only error is `Limit`, with the first ratio of the test that does not fit under the
-    /// field's limit.
+    /// The only error is `Limit`, with the first ratio of the test whose numerator or denominator
+    /// is beyond the limit of the field.
     pub fn leaving(&self, enter: u32) -> Result<Option<u32>, Stop>
         requires { Improves (dictionary F.value self.now) enter }
         ensures fits { IfOk result (λ _. AllFit (ratio_steps F.limit self.now.upcoming (dictionary F.value self.now) enter)) }
@@ -288,14 +305,20 @@ impl<F: ExactField> Dict<F> {
         }
     }
 
-    /// The dictionary after the pivot `p`, which is legal: `p.enter` becomes basic in the row of
-    /// `p.leave`. If variable 0 leaves, it is removed. Rows in which `p.enter` does not occur are
-    /// unchanged.
+    /// The dictionary after the pivot `p`: `p.enter` becomes basic in the row of `p.leave`. The
+    /// pivot must be legal. If some constant is below 0, it is an opening pivot: variable 0 enters,
+    /// and a basic variable with the least constant leaves. Else a variable that improves (one
+    /// whose rise raises the objective or, while variable 0 is basic, lowers that) enters, and one
+    /// that ties in the ratio test leaves, variable 0 if it ties. If variable 0 leaves, its
+    /// coefficients become 0. Rows in which `p.enter` does not occur are otherwise unchanged. A
+    /// point, with variable 0 at 0 if that leaves, satisfies the dictionary after the pivot exactly
+    /// if it satisfies the one before. After the pivot no opening pivot is required, and the number
+    /// of the next pivot is one more, at most 2^64 - 1.
     ///
-    /// The error `Limit` has the first step that does not fit under the field's limit. The steps of
-    /// the row of `p.leave` come first, then those of the other rows in order, and those of the
-    /// objective last. `Memory` means out of memory, and `Crossed` does not occur. After an error
-    /// the dictionary is lost.
+    /// The error `Limit` has the first step that computes a numerator or a denominator beyond the
+    /// limit of the field. The steps of the row of `p.leave` come first, then those of the other
+    /// rows in order, and those of the objective last. `Memory` means out of memory, and `Crossed`,
+    /// for bounds that cross, does not occur. After an error the dictionary is lost.
     pub fn pivot(self, alloc: Global, p: Pivot) -> Result<Dict<F>, Stop>
         requires { (k : ℕ) × IsLegal (dictionary F.value self) p k }
         ensures exchanged { IfOk result (λ after. (k : ℕ) → slice_get self.basic k ≡ Some p.leave →
@@ -368,13 +391,19 @@ impl<F: ExactField> Dict<F> {
         }
     }
 
-    /// What is read from the final dictionary: how the search ends (the kind), the values and
-    /// coefficients of all variables, and the ray.
+    /// What is read from the final dictionary: how the search ends (the kind), the value of each
+    /// variable, its coefficient in the priced row, and the ray. The priced row is that of variable
+    /// 0 while variable 0 is basic, and otherwise the objective.
     ///
-    /// If `enter` is a variable, it improves in phase 2, and no row limits its rise: the kind is
-    /// `Unbounded`, and the ray is that of this variable. If `enter` is `None`, the kind is
-    /// `Optimal` if nothing improves in phase 2, `Infeasible` if nothing improves in phase 1, and
-    /// otherwise `Interrupted`, in phase 2. The only error is out of memory.
+    /// One of these must be true of `enter`:
+    /// - It is a variable that improves in phase 2, and no row limits its rise. The kind is
+    ///   `Unbounded`, and the ray is the change of each variable when `enter` rises by 1.
+    /// - It is `None`, and no variable improves. The kind is `Optimal` in phase 2 and `Infeasible`
+    ///   in phase 1. The ray is empty.
+    /// - It is `None`, and a variable improves in phase 2. The kind is `Interrupted`. The ray is
+    ///   empty.
+    ///
+    /// The only error is out of memory.
     pub fn done(&self, alloc: Global, enter: Option<u32>) -> Result<Final<F>, AllocError>
         requires { IsDone (dictionary F.value self.now) enter }
         ensures kind { IfOk result (λ final. IsReadAt (dictionary F.value self.now) final.kind (last_with (dictionary F.value self.now) enter)) }

@@ -10,10 +10,9 @@ use Rattle.std.specs.List.Sorted.{IsStrictlySortedBy}
 use Rattle.std.proofs.lemmas.List.Elements.{All-from_recursion, recursion_from_All, All-cons, All-weaker}
 use Rattle.std.proofs.lemmas.Map.Keys.{sorted_head, sorted_tail}
 use Rattle.gms_tuple.specs.TupleOrder.{tuple_cmp}
-use Rattle.gms_tuple.specs.OrderLaws.{tuple_cmp-total, same_tuple-tuple_cmp}
+use Rattle.gms_tuple.specs.OrderLaws.{tuple_cmp-total}
 use Rattle.lp_form.specs.declared.key.Key.{Key}
 use Rattle.lp_form.specs.Keys.{key_cmp, same_key, AreOrdered}
-use Rattle.std.proofs.lemmas.Slice.Eq.{bytes_eq-Decides}
 
 -- the order is total
 pub key_cmp-total : IsTotalOrder key_cmp

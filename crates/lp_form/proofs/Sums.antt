@@ -1,6 +1,5 @@
 -- The sums at the keys of a form that is added, and what they make of a sum.
-use Rattle.std.proofs.Common.{◌≡◌, ℕ, ◌+◌, ◌<◌, ◌≤◌, true, false, cond, if◌then◌else◌, pos, List, [], ◌∷◌, ◌++◌, length, get_or, drop, Some, None, Result, Ok, Err, IfErr, OnErr, refl, sym, ap, ◌∙◌, subst, arith, append_assoc, length-append}
-use Rattle.std.specs.declared.cmp.Ordering.TheVariants.{Less}
+use Rattle.std.proofs.Common.{◌≡◌, ℕ, ◌+◌, ◌<◌, ◌≤◌, true, false, cond, pos, List, [], ◌∷◌, ◌++◌, length, get_or, drop, Some, None, Result, Ok, Err, IfErr, OnErr, refl, sym, ap, ◌∙◌, subst, arith, append_assoc, length-append}
 use Rattle.std.proofs.lemmas.List.{drop_all, append-nil}
 use Rattle.gq_number.specs.Number.{Number, whole, ◌+ℚ◌}
 use Rattle.gq_number.proofs.Field.{+ℚ-zero}
@@ -8,7 +7,7 @@ use Rattle.gq_field.specs.Fits.{fits, sum_fits}
 use Rattle.lp_form.specs.declared.key.Key.{Key}
 use Rattle.lp_form.specs.declared.fault.FormFault.{FormFault}
 use Rattle.lp_form.specs.declared.fault.FormFault.TheVariants as fault
-use Rattle.lp_form.specs.Keys.{key_cmp, same_key, AreOrdered}
+use Rattle.lp_form.specs.Keys.{same_key, AreOrdered}
 use Rattle.lp_form.specs.Affine.{Affine, IsForm}
 use Rattle.lp_form.specs.Forms.{number_at, coefficient, sum_form_step, of_two, IsEntrywiseAnswer}
 use Rattle.lp_form.proofs.KeyOrder.{same_key-is, first-before, rest-ordered, before-all}

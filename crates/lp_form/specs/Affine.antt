@@ -5,7 +5,8 @@ use Rattle.gq_number.specs.Number.{Number, whole}
 use Rattle.lp_form.specs.declared.key.Key.{Key}
 use Rattle.lp_form.specs.Keys.{AreOrdered}
 
--- An affine form: a constant, and for each of its keys a number, the coefficient.
+-- An affine form: a constant, and for each of its keys a number, the coefficient. A key is an
+-- element of a symbol, such as `x(seattle,chicago)`.
 pub record Affine (F : Type 0) : Type 0 where
   pub constant : F
   pub keys : List Key

@@ -9,39 +9,46 @@ use Rattle.lp_form.specs.declared.fault.FormFault.TheVariants as fault
 use Rattle.lp_form.specs.Keys.{key_cmp, same_key}
 use Rattle.lp_form.specs.Affine.{Affine, IsForm}
 
--- the number paired with a key in parallel lists of keys and numbers; 0 if the key is not listed
+-- the number of a key in parallel lists: the keys, and a value of the field `F` for each, of which
+-- `value` gives the number; 0 if the key has no value in them
 abbrev pub number_at : {F : Type 0} → (F → Number) → List Key → List F → Key → Number
 number_at value [] numbers key = whole (pos 0)
 number_at value (k ∷ keys) [] key = whole (pos 0)
 number_at value (k ∷ keys) (x ∷ numbers) key = if same_key k key then value x else number_at value keys numbers key
 
--- the number of a form at a key; 0 if the form does not have the key
+-- the number that a form has at a key, as `value` gives it; 0 if the form does not have the key
 abbrev pub coefficient : {F : Type 0} → (F → Number) → Affine F → Key → Number
 coefficient value form key = number_at value form.keys form.numbers key
 
--- A step: the number that it gives, and whether the step fits under the limit of a field.
+-- A step of arithmetic: the number that it gives, and whether it fits. Each kind of step tells when
+-- it fits: certain integers of its computation are at most a limit in magnitude.
 pub record Step : Type 0 where
   pub number : Number
   pub fits : Bool
 
--- A step for the constant of a form, and one for each key.
+-- A step of arithmetic that gives the constant of a form, and one that gives the number at each
+-- key.
 pub record Entrywise : Type 0 where
   pub constant : Step
   pub at : Key → Step
 
--- the step that adds two numbers; it fits if each of its intermediate numbers is within the limit
+-- the step that adds two numbers; it fits if each integer that the addition of the two fractions
+-- computes (`sum_fits`) is at most `limit` in magnitude
 abbrev pub sum_form_step : ℕ → Number → Number → Step
 sum_form_step limit x y = record { number = x +ℚ y; fits = sum_fits limit x y }
 
--- the step that subtracts y from x; it fits if the step that adds the negated y to x does
+-- the step that subtracts y from x; it fits under the same condition as the step that adds the
+-- negated y to x (`sum_form_step`)
 abbrev pub difference_step : ℕ → Number → Number → Step
 difference_step limit x y = record { number = x -ℚ y; fits = sum_fits limit x (neg_ℚ y) }
 
--- the step that multiplies two numbers; it fits if the product is within the limit
+-- the step that multiplies two numbers; it fits if the product's numerator and denominator are at
+-- most `limit` in magnitude
 abbrev pub product_form_step : ℕ → Number → Number → Step
 product_form_step limit x y = record { number = x *ℚ y; fits = fits limit (x *ℚ y) }
 
--- the step that divides x by y; it fits if the quotient is within the limit
+-- the step that divides x by y, with the quotient 0 if y is 0; it fits if the quotient's numerator
+-- and denominator are at most `limit` in magnitude
 abbrev pub quotient_step : ℕ → Number → Number → Step
 quotient_step limit x y = record { number = x /ℚ y; fits = fits limit (x /ℚ y) }
 
@@ -54,9 +61,9 @@ of_two step value a b = record { constant = step (value a.constant) (value b.con
 abbrev pub by_number : {F : Type 0} → (Number → Number → Step) → (F → Number) → Affine F → Number → Entrywise
 by_number step value a x = record { constant = step (value a.constant) x; at = λ key. step (coefficient value a key) x }
 
--- Ok: all steps fit, and the form has the numbers that they give. Limit: the first step that does
--- not fit, that of the constant (None) or of a key; the constant comes first, then the keys in
--- order. Memory may be the answer whatever the steps are.
+-- Ok: all steps fit, and the form, which satisfies `IsForm`, has the numbers that they give. Limit:
+-- the first step that does not fit, that of the constant (None) or of a key; the constant comes
+-- first, then the keys in order. Memory may be the answer whatever the steps are.
 abbrev pub IsEntrywiseAnswer : {F : Type 0} → (F → Number) → Entrywise → Result (Affine F) FormFault → Type 0
 IsEntrywiseAnswer value steps (Ok form) =
     (value form.constant ≡ steps.constant.number) × ((key : Key) → coefficient value form key ≡ (steps.at key).number) × (steps.constant.fits ≡ true) × ((key : Key) → (steps.at key).fits ≡ true) × IsForm value form

@@ -10,23 +10,26 @@ use Rattle.lp_form.specs.Affine.{Affine}
 use Rattle.lp_form.specs.Forms.{number_at}
 use Rattle.lp_form.specs.Keys.{key_cmp, same_key}
 
--- the number paired with a key in parallel lists of keys and numbers, or `other` if the key is not
--- listed
+-- the number of a key in parallel lists: the keys, and a value of the field `F` for each, of which
+-- `value` gives the number; `other` if the key has no value in them
 abbrev pub number_or : {F : Type 0} → (F → Number) → Number → List Key → List F → Key → Number
 number_or value other [] numbers key = other
 number_or value other (k ∷ keys) [] key = other
 number_or value other (k ∷ keys) (x ∷ numbers) key =
     if same_key k key then value x else number_or value other keys numbers key
 
--- what a fault does to a sum, `before` the addition and `now`: if a step exceeds the limit, it is
--- unchanged; if out of memory, it may have any value
+-- What a fault of an addition does to a sum, which is `before` before it and `now` after it. Limit,
+-- where a number exceeds the field's limit of size: the sum is unchanged. Memory, which is out of
+-- memory: the sum may have any value.
 abbrev pub IsUnchangedByFault : {F : Type 0} → Affine F → Affine F → FormFault → Type 0
 IsUnchangedByFault before now (fault.Limit key) = now ≡ before
 IsUnchangedByFault before now fault.Memory = Unit {0}
 
 -- The answer of adding listed numbers, each at its key, to the numbers of a sum, which has `at key`
--- at each key. Ok: each addition fits, and the results are the totals at the listed keys. Limit:
--- the first key in order whose addition does not fit. Memory may be the answer at any time.
+-- at each key. An addition fits if no integer that it computes exceeds `limit` in magnitude. Ok:
+-- each addition fits, and the results are the totals at the listed keys. Limit: the first key in
+-- order whose addition does not fit; Limit without a key is no answer. Memory, which is out of
+-- memory, may be the answer at any time.
 abbrev pub Sums : {F : Type 0} → (F → Number) → ℕ → (Key → Number) → List Key → List F → Result (List F) FormFault → Type 0
 Sums value limit at keys numbers (Ok sums) =
     (length sums ≡ length keys) × ((key : Key) → number_or value (at key) keys sums key ≡ at key +ℚ number_at value keys numbers key) × ((key : Key) → sum_fits limit (at key) (number_at value keys numbers key) ≡ true)

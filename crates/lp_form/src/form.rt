@@ -14,7 +14,7 @@ use std::alloc::{AllocError, Global};
 use std::marker::Model;
 
 /// An affine form: a constant, and for each of finitely many keys a coefficient that is not 0, in
-/// the order of keys.
+/// the order of keys. A key is an element of a symbol, such as `x(seattle,chicago)`.
 ///
 /// The left side of `cost.. z - 2*x =e= 5;` is the form with the constant 0, the coefficient 1 at
 /// `z` and -2 at `x`. A key that the form does not have counts as one with the coefficient 0.
@@ -123,8 +123,11 @@ impl<F: ExactField> Form<F> {
     }
 
     /// Adds the form `o` to this form: its constant to the constant, and its coefficient of each
-    /// key to this form's coefficient of the key.
+    /// key to this form's coefficient of the key. A key whose sum is 0 is no longer a key.
     ///
+    /// On success each of these sums fits: no number computed on the way to it is beyond the
+    /// field's limit. `Limit` names the first sum that does not fit: the constant comes first
+    /// (`None`), then the keys in order. Whether all fit or not, the fault may be out of memory.
     /// After a fault this form is unchanged. If all keys of `o` come after those of this form, the
     /// time depends on the entries of `o` alone.
     pub fn add_assign(&mut self, alloc: Global, o: &Form<F>) -> Result<(), FormFault>
@@ -147,7 +150,9 @@ impl<F: ExactField> Form<F> {
     }
 
     /// The sum of this form and the form `o`: of the constants, and of the coefficients of each
-    /// key.
+    /// key. On success each of these sums fits: no number computed on the way to it is beyond the
+    /// field's limit. `Limit` names the first sum that does not fit: the constant comes first
+    /// (`None`), then the keys in order. Whether all fit or not, the fault may be out of memory.
     pub fn add(&self, alloc: Global, o: &Form<F>) -> Result<Form<F>, FormFault>
         ensures { IsEntrywiseAnswer F.value (of_two (sum_form_step F.limit) F.value self.now o.now) result }
     {
@@ -159,8 +164,10 @@ impl<F: ExactField> Form<F> {
     /// This form minus the form `o`: the difference of the constants, and of the coefficients of
     /// each key.
     ///
-    /// The call succeeds exactly if the sum of this form and the negated `o` does; if not, it
-    /// returns the fault of that sum.
+    /// On success each difference, as the sum of a number and a negated one, fits: no number
+    /// computed on the way to it is beyond the field's limit. `Limit` names the first that does not
+    /// fit: the constant comes first (`None`), then the keys in order. Whether all fit or not, the
+    /// fault may be out of memory.
     pub fn sub(&self, alloc: Global, o: &Form<F>) -> Result<Form<F>, FormFault>
         ensures { IsEntrywiseAnswer F.value (of_two (difference_step F.limit) F.value self.now o.now) result }
     {
@@ -168,7 +175,10 @@ impl<F: ExactField> Form<F> {
         self.add(alloc, &negated)
     }
 
-    /// This form multiplied by `v`: the constant and each coefficient times `v`.
+    /// This form multiplied by `v`: the constant and each coefficient times `v`. On success each of
+    /// these products fits: its reduced numerator and denominator are at most the field's limit.
+    /// `Limit` names the first that does not fit: the constant comes first (`None`), then the keys
+    /// in order. Whether all fit or not, the fault may be out of memory.
     pub fn scale(&self, alloc: Global, v: F) -> Result<Form<F>, FormFault>
         ensures { IsEntrywiseAnswer F.value (by_number (product_form_step F.limit) F.value self.now (F.value v)) result }
     {
@@ -176,7 +186,10 @@ impl<F: ExactField> Form<F> {
     }
 
     /// This form divided by `v`, which is required not to be 0: the constant and each coefficient
-    /// divided by `v`.
+    /// divided by `v`. On success each of these quotients fits: its reduced numerator and
+    /// denominator are at most the field's limit. `Limit` names the first that does not fit: the
+    /// constant comes first (`None`), then the keys in order. Whether all fit or not, the fault may
+    /// be out of memory.
     pub fn divide(&self, alloc: Global, v: F) -> Result<Form<F>, FormFault>
         requires { F.value v ≢ whole (pos 0) }
         ensures { IsEntrywiseAnswer F.value (by_number (quotient_step F.limit) F.value self.now (F.value v)) result }

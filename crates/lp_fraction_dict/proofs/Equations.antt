@@ -1,7 +1,7 @@
 -- The exchange preserves what the equations state: each row after it is a row before it, less a
 -- multiple of the pivot row.
 use mathlib.Core.Bool.{and-false}
-use Rattle.std.proofs.Common.{◌≡◌, ◌≢◌, ℕ, zero, suc, ◌+◌, ◌<◌, ◌==◌, ◌&&◌, inl, inr, Bool, true, false, pos, cond, List, [], ◌∷◌, length, length-set, refl, sym, ap, ap₂, ◌∙◌, subst, arith}
+use Rattle.std.proofs.Common.{◌≡◌, ◌≢◌, ℕ, zero, suc, ◌+◌, ◌<◌, ◌==◌, ◌&&◌, inl, inr, true, false, pos, cond, List, [], ◌∷◌, length, length-set, sym, ap, ap₂, ◌∙◌, subst, arith}
 use Rattle.std.specs.List.{range_with_len}
 use Rattle.std.specs.Prelude.{slice_set}
 use Rattle.std.proofs.lemmas.Bool.Decides.{nat_tests}

@@ -12,13 +12,14 @@ abbrev pub InOrder : ℕ → ℕ → List (ℕ × Number) → Type 0
 InOrder low high [] = Unit {0}
 InOrder low high (e ∷ es) = (low ≤ e.0) × (e.0 < high) × InOrder (e.0 + 1) high es
 
--- The stored row `made` has entries below this column alone, and there the numbers of `target`.
+-- The entries of the stored row `made` ascend by column, below `column`, and none is 0; at each
+-- column below `column` the row has the number that `target` gives.
 pub record IsFilled {F : Type 0} (value : F → Number) (target : ℕ → Number) (column : ℕ) (made : List (Entry F)) : Type 0 where
   pub is_row : IsRow value 0 column made
   pub numbers : (c : ℕ) → c < column → number_in value made c ≡ target c
 
--- A standard form whose rows have entries in order, and that has at most 1,500 rows and 3,000
--- variables.
+-- A standard form in which the entries of each row ascend by variable, from 1 to the number of
+-- variables, and that has at most 1,500 rows and 3,000 variables.
 pub record IsInForm (s : form.Standard) : Type 0 where
   pub rows : All (λ (row : form.StandardRow). InOrder 1 (length s.objective + 1) row.entries) s.rows
   pub rows_few : length s.rows ≤ 1500
@@ -26,7 +27,7 @@ pub record IsInForm (s : form.Standard) : Type 0 where
 
 -- The stored rows `made` are the first n rows of the first dictionary of a standard form with these
 -- `rows`. `needed` says whether phase 1 is needed, and `slack` is the number of the first row's
--- slack variable.
+-- slack variable. Row k has entries up to column `slack + k + 1`, that of its slack variable.
 pub record AreFirst {F : Type 0} (value : F → Number) (needed : Bool) (slack : ℕ) (rows : List form.StandardRow) (made : List (List (Entry F))) (n : ℕ) : Type 0 where
   pub sized : length made ≡ n
   pub each : (k : ℕ) → k < n → IsFilled value (first_row needed (slack + k) (slice_index_or rows k no_row)) (slack + k + 2) (slice_index_or made k [])

@@ -28,7 +28,7 @@ abbrev pub part_number : Part → ℕ
 part_number part.Product = 0
 part_number part.Difference = 1
 
--- the fault of row i as a fault of the rows, which says in which row it is
+-- the fault of row i, with the number of the row added unless it is out of memory
 abbrev pub line_fault : ℕ → RowFault → LineFault
 line_fault i (fault.Limit column p) = line_fault_of.Limit i column p
 line_fault i fault.Memory = line_fault_of.Memory
@@ -44,40 +44,47 @@ InLine Q line_fault_of.Memory = Unit {0}
 abbrev pub OnLine : {T : Type 0} → (T → Type 0) → (ℕ → ℕ → Part → Type 0) → Result T LineFault → Type 0
 OnLine P Q r = IfOk r P × IfErr r (InLine Q)
 
--- why the exchange of this pivot stops at a fault: the name of the step that does not fit, with
--- rows from 1, or out of memory
+-- the stop of the exchange in the pivot with this number, by its fault: for a step that does not
+-- fit, Limit with the step's name, which has the pivot's number, the row from 1, the column, and
+-- the number of the step's part (`part_number`); else Memory, out of memory
 abbrev pub stop_of : ℕ → LineFault → Stop
 stop_of pivot (line_fault_of.Limit i column p) = stop.Limit (Exchange pivot (i + 1) column (part_number p))
 stop_of pivot line_fault_of.Memory = stop.Memory
 
--- each step fits under the limit that subtracts from a row its number at `column` times the pivot
--- row: at every column c the product and the difference
+-- let `row` less its number at `column` times the pivot row be computed: each step, at every column
+-- c the product and the difference, fits under the limit of numerators and denominators
 abbrev pub LineFits : {F : Type 0} → (F → Number) → ℕ → ℕ → List (Entry F) → List (Entry F) → Type 0
 LineFits value limit column pivot_row row =
     (c : ℕ) → StepsFit limit (number_in value row c) (number_in value row column) (number_in value pivot_row c)
 
--- Each row of `after` is that of `before` less its number at `column` times the pivot row, and each
--- step of this fits. The columns of the rows are below `high`.
+-- Each row of `after` is the row of `before` at the same index less that row's number at `column`
+-- times the pivot row, and each product and difference of this fits under the limit of numerators
+-- and denominators. The columns of `after` are below `high`.
 pub record AreExchanged {F : Type 0} (value : F → Number) (limit high column : ℕ) (pivot_row : List (Entry F)) (before after : List (List (Entry F))) : Type 0 where
   pub sized : length after ≡ length before
   pub each : (i : ℕ) → i < length before → IsLessened value limit high (slice_index_or before i []) (number_in value (slice_index_or before i []) column) pivot_row (slice_index_or after i [])
 
--- The first step that does not fit, as from each row its number at `column` times the pivot row is
--- subtracted, is in row i at the column `at`; p says whether it is a product or a difference.
+-- From each row of `before` its number at `column` times the pivot row is subtracted. The first
+-- step that does not fit under the limit of numerators and denominators is in row i at the column
+-- `at`, below `high`; p says whether it is a product or a difference. All steps of the rows before
+-- row i fit.
 pub record IsFirstLine {F : Type 0} (value : F → Number) (limit high column : ℕ) (pivot_row : List (Entry F)) (before : List (List (Entry F))) (i at : ℕ) (p : Part) : Type 0 where
   pub within : i < length before
   pub fit : (j : ℕ) → j < i → LineFits value limit column pivot_row (slice_index_or before j [])
   pub here : IsFirstMisfit value limit high (slice_index_or before i []) (number_in value (slice_index_or before i []) column) pivot_row at p
 
--- The exchange of a row and a column, whose steps all fit: the row at `place` is divided by its
--- number at `column`, and from every other row its number at `column` times the divided row is
--- subtracted. The columns are below `high`.
+-- The exchange of a row and a column, whose steps all fit under the limit of numerators and
+-- denominators: the row at `place` is divided by its number at `column`, and from every other row
+-- its number at `column` times the divided row is subtracted. `before` and `after` give each row by
+-- its index; the columns of `after` are below `high`.
 pub record IsTurned {F : Type 0} (value : F → Number) (limit high : ℕ) (before : ℕ → List (Entry F)) (place column : ℕ) (after : ℕ → List (Entry F)) : Type 0 where
   pub divided : IsDivided value limit high (before place) (number_in value (before place) column) (after place)
   pub others : (i : ℕ) → i ≢ place → IsLessened value limit high (before i) (number_in value (before i) column) (after place) (after i)
 
--- The first step of an exchange that does not fit is in row i, another than the row at `place`, at
--- the column `at`; p says whether it is a product or a difference.
+-- In the exchange of the row at `place` and the column `column`, all quotients of the row at
+-- `place` fit under the limit of numerators and denominators. The first step that does not is in
+-- another row, i, at the column `at`, below `high`; p says whether it is a product or a difference.
+-- `pivot_row` is the row at `place` divided by its number at `column`.
 pub record IsStoppedInOtherLine {F : Type 0} (value : F → Number) (limit high : ℕ) (before : ℕ → List (Entry F)) (place column i at : ℕ) (p : Part) : Type 0 where
   pub pivot_row : List (Entry F)
   pub divided : IsDivided value limit high (before place) (number_in value (before place) column) pivot_row
@@ -85,8 +92,11 @@ pub record IsStoppedInOtherLine {F : Type 0} (value : F → Number) (limit high 
   pub fit : (j : ℕ) → j < i → j ≢ place → LineFits value limit column pivot_row (before j)
   pub here : IsFirstMisfit value limit high (before i) (number_in value (before i) column) pivot_row at p
 
--- the first step of an exchange that does not fit is in row i at the column `at`: a quotient of the
--- row at `place`, or, if these all fit, a product or difference of another row
+-- the first step that does not fit under the limit of numerators and denominators, in the exchange
+-- of the row at `place` and the column `column`, is in row i at the column `at`, below `high`: a
+-- quotient of the row at `place`, or, if these all fit, a product or difference of another row; p
+-- says which, Product for a quotient too. `before` has the rows before the exchange, each with
+-- `high` columns
 abbrev pub IsFirstTurn : {F : Type 0} → (F → Number) → ℕ → ℕ → (ℕ → List (Entry F)) → ℕ → ℕ → ℕ → ℕ → Part → Type 0
 IsFirstTurn value limit high before place column i at p =
     ((i ≡ place) × IsFirstUndivided value limit high (before place) (number_in value (before place) column) at p)
@@ -96,7 +106,7 @@ IsFirstTurn value limit high before place column i at p =
 abbrev pub without : {F : Type 0} → ℕ → List (Entry F) → List (Entry F)
 without {F} column row = filter (λ (e : Entry F). not (e.column == column)) row
 
--- a row after an exchange in which the variable `leave` leaves: if that is variable 0, its entry in
--- column 1 is removed
+-- a row after an exchange in which the variable `leave` leaves: if that is variable 0, the row
+-- without its entry in column 1, the column of variable 0; else the row unchanged
 abbrev pub kept_after : {F : Type 0} → ℕ → List (Entry F) → List (Entry F)
 kept_after leave row = if leave == 0 then without 1 row else row

@@ -40,22 +40,25 @@ abbrev pub SplitsAt : {F : Type 0} → List (Entry F) → ℕ → Option F → L
 SplitsAt row column (Some number) rest = row ≡ record { column = column; number = number } ∷ rest
 SplitsAt row column None rest = (rest ≡ row) × ¬ (StartsAt column row)
 
--- the number that a field's value means; 0 without a value
+-- the number that x means, if there is an x (Some); 0 if there is none
 abbrev pub number_or_zero : {F : Type 0} → (F → Number) → Option F → Number
 number_or_zero value (Some x) = value x
 number_or_zero value None = whole (pos 0)
 
--- both steps that subtract factor · y from x fit under the limit: the product, and the difference
+-- both steps that subtract factor · y from x fit under the limit of numerators and denominators:
+-- the product, and the difference
 abbrev pub StepsFit : ℕ → Number → Number → Number → Type 0
 StepsFit limit x factor y = (product_fits limit factor y ≡ true) × (difference_fits limit x (factor *ℚ y) ≡ true)
 
--- of the two steps that subtract factor · y from x, this part is the first that does not fit
+-- of the two steps that subtract factor · y from x, the product and the difference, this part is
+-- the first that does not fit under the limit of numerators and denominators
 abbrev pub Misfits : ℕ → Number → Number → Number → Part → Type 0
 Misfits limit x factor y part.Product = product_fits limit factor y ≡ false
 Misfits limit x factor y part.Difference = (product_fits limit factor y ≡ true) × (difference_fits limit x (factor *ℚ y) ≡ false)
 
 -- What `number` less factor · `other` gives, where an absent number is 0. Ok: the difference, and
--- both steps fit under the limit. Err: the first of the two steps that does not fit.
+-- both steps, the product and the difference, fit under the limit of numerators and denominators.
+-- Err: the first of the two steps that does not fit.
 abbrev pub Lessens : {F : Type 0} → (F → Number) → ℕ → Option F → F → Option F → Result F Part → Type 0
 Lessens value limit number factor other (Ok z) =
     StepsFit limit (number_or_zero value number) (value factor) (number_or_zero value other) × (value z ≡ number_or_zero value number -ℚ value factor *ℚ number_or_zero value other)
@@ -66,39 +69,44 @@ abbrev pub PushesUnlessZero : {F : Type 0} → (F → Number) → ℕ → F → 
 PushesUnlessZero value column number before now =
     ((value number ≢ whole (pos 0)) × (now ≡ before ++ record { column = column; number = number } ∷ [])) ⊎ ((value number ≡ whole (pos 0)) × (now ≡ before))
 
--- Q holds of the column and the part of the step that does not fit; out of memory makes no claim
+-- Q holds of the column at which a step does not fit and of the part, which says whether the step
+-- is a product (or quotient) or a difference; out of memory makes no claim
 abbrev pub InRow : (ℕ → Part → Type 0) → RowFault → Type 0
 InRow Q (fault.Limit column part) = Q column part
 InRow Q fault.Memory = Unit {0}
 
--- Ok: P holds of the value. Err: Q holds of the column and the part of the step that does not fit;
--- out of memory makes no claim.
+-- Ok: P holds of the value. Err: Q holds of the column at which a step does not fit and of the
+-- part, which says whether the step is a product (or quotient) or a difference; out of memory makes
+-- no claim.
 abbrev pub OnRow : {T : Type 0} → (T → Type 0) → (ℕ → Part → Type 0) → Result T RowFault → Type 0
 OnRow P Q r = IfOk r P × IfErr r (InRow Q)
 
--- The row `made` is `row` less a factor times the row `other`, at each column, and each step of
--- this fits. Its columns are below `high`.
+-- The row `made` is `row` less a factor times the row `other`, at each column, and each product and
+-- difference of this fits under the limit of numerators and denominators. The columns of `made` are
+-- below `high`.
 pub record IsLessened {F : Type 0} (value : F → Number) (limit high : ℕ) (row : List (Entry F)) (factor : Number) (other made : List (Entry F)) : Type 0 where
   pub is_row : IsRow value 0 high made
   pub numbers : (c : ℕ) → number_in value made c ≡ number_in value row c -ℚ factor *ℚ number_in value other c
   pub fit : (c : ℕ) → StepsFit limit (number_in value row c) factor (number_in value other c)
 
--- The first step that does not fit, as a factor times the row `other` is subtracted from `row`, is
--- at this column, below `high`; p says whether it is the product or the difference.
+-- A factor times the row `other` is subtracted from `row`, column by column. The first step that
+-- does not fit under the limit of numerators and denominators is at this column, below `high`; p
+-- says whether it is the product or the difference.
 pub record IsFirstMisfit {F : Type 0} (value : F → Number) (limit high : ℕ) (row : List (Entry F)) (factor : Number) (other : List (Entry F)) (column : ℕ) (p : Part) : Type 0 where
   pub within : column < high
   pub before : (c : ℕ) → c < column → StepsFit limit (number_in value row c) factor (number_in value other c)
   pub here : Misfits limit (number_in value row column) factor (number_in value other column) p
 
--- The row `made` is `row` over a divisor, at each column, and each quotient fits. Its columns are
--- below `high`.
+-- The row `made` is `row` over a divisor, at each column, and each quotient fits under the limit of
+-- numerators and denominators. The columns of `made` are below `high`.
 pub record IsDivided {F : Type 0} (value : F → Number) (limit high : ℕ) (row : List (Entry F)) (divisor : Number) (made : List (Entry F)) : Type 0 where
   pub is_row : IsRow value 0 high made
   pub numbers : (c : ℕ) → number_in value made c ≡ number_in value row c /ℚ divisor
   pub fit : (c : ℕ) → quotient_fits limit (number_in value row c) divisor ≡ true
 
--- The first quotient that does not fit, as `row` is divided, is at this column, below `high`; those
--- at the columns before it fit. The part p is Product, which names a quotient too.
+-- As `row` is divided, the first quotient that does not fit under the limit of numerators and
+-- denominators is at this column, below `high`; those at the columns before it fit. The part p is
+-- Product, which names a quotient too.
 pub record IsFirstUndivided {F : Type 0} (value : F → Number) (limit high : ℕ) (row : List (Entry F)) (divisor : Number) (column : ℕ) (p : Part) : Type 0 where
   pub is_product : p ≡ part.Product
   pub within : column < high

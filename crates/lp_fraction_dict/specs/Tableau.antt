@@ -22,7 +22,7 @@ abbrev pub fraction_tableau : {F : Type 0} → ℕ → List ℕ → List (List (
 fraction_tableau variables basic rows objective upcoming =
     record { variables = variables; basic = basic; rows = rows; objective = objective; upcoming = upcoming }
 
--- the dictionary that a tableau stores; the row after the last is the objective
+-- the dictionary that a tableau stores; each index from the number of rows on gives the objective
 abbrev pub fraction_dictionary : {F : Type 0} → (F → Number) → FractionTableau F → Dictionary
 fraction_dictionary value t =
     record {
@@ -32,8 +32,8 @@ fraction_dictionary value t =
     }
 
 -- The invariant of a tableau: a row for each basic variable, all entries in order and at columns of
--- the dictionary, no more rows than variables, column numbers of at most 32 bits, and the invariant
--- of a program's dictionaries.
+-- the dictionary, no more rows than variables other than 0, column numbers of at most 32 bits, and
+-- the invariant of a program's dictionaries.
 pub record IsTableau {F : Type 0} (value : F → Number) (t : FractionTableau F) : Type 0 where
   pub sized : t.variables + 2 < 2 ^ 32
   pub few : length t.basic ≤ t.variables

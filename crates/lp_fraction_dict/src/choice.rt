@@ -51,8 +51,8 @@ fn lesser<F: ExactField>(best: Option<Candidate<F>>, other: Candidate<F>) -> Can
     }
 }
 
-/// The basic variable of a row with the least constant below 0, and of several such the least. None
-/// if no constant is below 0.
+/// The basic variable of a row with the least constant below 0, and of several such the one with
+/// the least number. None if no constant is below 0.
 pub(crate) fn least_constant<F: ExactField>(
     rows: &[Vec<Entry<F>>],
     basic: &[u32],
@@ -77,8 +77,8 @@ pub(crate) fn least_constant<F: ExactField>(
 }
 
 /// The basic variable of a row with the least ratio of its constant to its number at a column,
-/// among rows where that number is above 0, and of several such the least. `None` if there is no
-/// such row. The error is the first row, from 0, whose ratio does not fit.
+/// among rows where that number is above 0, and of several such the one with the least number.
+/// `None` if there is no such row. The error is the first row, from 0, whose ratio does not fit.
 pub(crate) fn least_ratio<F: ExactField>(
     rows: &[Vec<Entry<F>>],
     basic: &[u32],

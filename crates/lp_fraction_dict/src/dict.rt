@@ -31,7 +31,8 @@ use std::alloc::{AllocError, Global};
 use std::marker::Model;
 
 /// A dictionary whose numbers are stored as fractions: an equation for each basic variable, and the
-/// objective (Chvatal, Linear Programming, chapters 2 and 3).
+/// objective (Chvatal, Linear Programming, chapters 2 and 3). In a row the sum of the coefficients
+/// times the variables equals the constant. The objective equals its sum less its constant.
 ///
 /// Each row stores only the numbers other than 0, as reduced fractions. Variable 0 is the
 /// artificial variable of phase 1.
@@ -105,9 +106,12 @@ impl<F: ExactField> ExactDict<F> {
         }
     }
 
-    /// A law: each dictionary satisfies its invariant. It has a row for each basic variable, the
-    /// entries of each row are by ascending column, and every basic variable occurs in its own row
-    /// alone, with coefficient 1.
+    /// A law: each dictionary satisfies its invariant. It has a row for each basic variable, and
+    /// the entries of each row are by ascending column. The basic variables are distinct, and each
+    /// occurs in its own row alone, with coefficient 1. If the opening pivot, in which variable 0
+    /// enters, is required, variable 0 has coefficient -1 in each row. While variable 0 is basic,
+    /// its constant is above 0. There are no more rows than the greatest number of a variable, and
+    /// the number of a column has at most 32 bits.
     pub fn keeps(&self)
         ensures { IsTableau F.value self.now }
     {
@@ -146,7 +150,8 @@ impl<F: ExactField> ExactDict<F> {
 
     /// The first dictionary of the standard form of a well-formed program, in which the slacks are
     /// basic. If some right side is below 0, variable 0 occurs in each row, and the opening pivot,
-    /// in which it enters, is required. The only error is out of memory.
+    /// in which variable 0 enters, is required. The next pivot has the number 1. The only error is
+    /// out of memory.
     pub fn of(alloc: Global, s: &Standard<F>) -> Result<ExactDict<F>, AllocError>
         requires { (lp : Lp F) × IsWellFormed F.value lp × (standard_value F.value s.now ≡ standard_form F.value lp) }
         ensures first { IfOk result (λ d. fraction_dictionary F.value d ≡ first_dictionary (standard_value F.value s.now)) }
@@ -183,8 +188,10 @@ impl<F: ExactField> ExactDict<F> {
         }
     }
 
-    /// The coefficient of the variable `other` in the row in which `basic` is basic. It is 0 if
-    /// `basic` is not basic, if `other` is basic, and if `other` is no variable.
+    /// The coefficient of the variable `other` in the row in which `basic` is basic. A row is an
+    /// equation: the sum of all coefficients times their variables is the constant, and the
+    /// coefficient of the basic variable is 1. The result is 0 if `basic` is not basic, if `other`
+    /// is basic, and if `other` is no variable, that is, exceeds the greatest number of a variable.
     pub fn entry(&self, basic: u32, other: u32) -> F
         ensures row { (k : ℕ) → slice_get self.now.basic k ≡ Some basic → ¬ (Contains self.now.basic other) → F.value result ≡
             entry_at (fraction_dictionary F.value self.now) k other }
@@ -204,9 +211,10 @@ impl<F: ExactField> ExactDict<F> {
         }
     }
 
-    /// The coefficient of variable `v` in the priced row, which is the row of variable 0 while
-    /// variable 0 is basic, else the objective. The coefficient is 0 if `v` is basic or no
-    /// variable.
+    /// The coefficient of variable `v` in the priced row. This is the row of variable 0 while
+    /// variable 0 is basic, in which the sum of the terms equals the constant; else it is the
+    /// objective. The result is 0 if `v` is basic or no variable, that is, exceeds the greatest
+    /// number of a variable.
     pub fn coefficient(&self, v: u32) -> F
         ensures priced { (k : ℕ) → IsPriced (fraction_dictionary F.value self.now) k → ¬ (Contains self.now.basic v) →
             F.value result ≡ entry_at (fraction_dictionary F.value self.now) k v }
@@ -226,8 +234,8 @@ impl<F: ExactField> ExactDict<F> {
     }
 
     /// The opening pivot of Bland's choice: variable 0 enters. Of the basic variables whose rows
-    /// have the least constant, which is below 0, the one with the least number leaves. `None` if
-    /// no constant is below 0.
+    /// have the least constant, which is below 0, the one with the least number leaves. `None`
+    /// exactly if no constant is below 0.
     pub fn opening(&self) -> Option<Pivot>
         ensures { MatchOption result (¬ (OpeningIsRequired (fraction_dictionary F.value self.now)))
             (λ p. ((k : ℕ) × IsOpening (fraction_dictionary F.value self.now) p k) ×
@@ -243,9 +251,11 @@ impl<F: ExactField> ExactDict<F> {
         }
     }
 
-    /// The least variable that improves, that is, has a coefficient above 0 in the priced row and
-    /// is neither basic nor variable 0; `None` exactly if none improves. The priced row is that of
-    /// variable 0 while this is basic, else the objective.
+    /// The variable with the least number of those that improve, that is, are neither basic nor
+    /// variable 0 and have a coefficient above 0 in the priced row; `None` exactly if none
+    /// improves. The priced row is that of variable 0 while this is basic, else the objective. A
+    /// row equates the sum of its terms with a constant, so variable 0 falls as such a variable
+    /// rises. The opening pivot must not be required, that is, no row's constant is below 0.
     pub fn entering(&self) -> Option<u32>
         requires { ¬ (OpeningIsRequired (fraction_dictionary F.value self.now)) }
         ensures { MatchOption result ((v : ℕ) → ¬ (Improves (fraction_dictionary F.value self.now) v))
@@ -257,9 +267,12 @@ impl<F: ExactField> ExactDict<F> {
         }
     }
 
-    /// The variable that improves with the greatest coefficient in the priced row (that of variable
-    /// 0 while this is basic, else the objective), and of several such the least; `None` exactly if
-    /// none improves. It visits that row once.
+    /// Of the variables that improve, the one with the greatest coefficient in the priced row, and
+    /// of several such variables the one with the least number; `None` exactly if none improves. A
+    /// variable improves if it is neither basic nor variable 0 and has a coefficient above 0 in the
+    /// priced row, which is that of variable 0 while this is basic, else the objective. A row
+    /// equates the sum of its terms with a constant, so variable 0 falls as such a variable rises.
+    /// The opening pivot must not be required, that is, no row's constant is below 0.
     pub fn greatest(&self) -> Option<u32>
         requires { ¬ (OpeningIsRequired (fraction_dictionary F.value self.now)) }
         ensures { MatchOption result ((v : ℕ) → ¬ (Improves (fraction_dictionary F.value self.now) v)) (HasGreatest (fraction_dictionary F.value self.now)) }
@@ -270,8 +283,12 @@ impl<F: ExactField> ExactDict<F> {
         }
     }
 
-    /// The variable that leaves when `enter` enters: the least of those that tie in the ratio test.
-    /// `None` exactly if no row limits `enter`.
+    /// The variable that leaves when the variable `enter` enters: of those that tie in the ratio
+    /// test the one with the least number. `None` exactly if no row limits the rise of `enter`. The
+    /// caller must ensure that `enter` improves, that is, is neither basic nor variable 0 and has a
+    /// coefficient above 0 in the priced row (that of variable 0 while this is basic, else the
+    /// objective). A row equates the sum of its terms with a constant, so variable 0 falls as
+    /// `enter` rises.
     ///
     /// The error `Limit` has the first ratio that is beyond the limit of the field. No other error
     /// occurs.
@@ -293,8 +310,17 @@ impl<F: ExactField> ExactDict<F> {
         }
     }
 
-    /// The dictionary after a legal pivot, in which `p.enter` is basic in the row of `p.leave`. If
-    /// variable 0 leaves, it is removed. Rows without the entering variable are unchanged.
+    /// The dictionary after the pivot `p`, in which `p.enter` is basic in the row of `p.leave`. The
+    /// caller must ensure that `p` is legal: if some constant is below 0, variable 0 enters and a
+    /// basic variable with the least constant leaves; else a variable that improves (one whose rise
+    /// raises the objective or, while variable 0 is basic, lowers that) enters, and one that ties
+    /// in the ratio test leaves, variable 0 if it ties.
+    ///
+    /// If variable 0 leaves, its coefficients become 0. Rows without the entering variable are
+    /// otherwise unchanged. A point satisfies the dictionary after the pivot exactly if it
+    /// satisfies the one before; if variable 0 leaves, this holds for the points at which it is 0.
+    /// No row's constant is below 0 after the pivot. A dictionary of a standard form remains one of
+    /// this form.
     ///
     /// The error `Limit` has the first step whose number is beyond the limit of the field. The
     /// steps are in this order: those of the leaving variable's row, those of the other rows in
@@ -350,8 +376,8 @@ impl<F: ExactField> ExactDict<F> {
     }
 
     /// The coefficient of each variable, by its number, in the priced row; 0 for a basic variable.
-    /// The priced row is the row of variable 0 while variable 0 is basic, else the objective. The
-    /// only error is out of memory.
+    /// The priced row is the row of variable 0 while variable 0 is basic, in which the sum of the
+    /// terms equals the constant; else it is the objective. The only error is out of memory.
     pub fn costs(&self, alloc: Global) -> Result<Vec<F>, AllocError>
         ensures { IfOk result (λ list. map F.value list.items ≡ (last_of (fraction_dictionary F.value self.now)).costs) }
     {
@@ -367,6 +393,11 @@ impl<F: ExactField> ExactDict<F> {
     /// The change of each variable, by its number, if the nonbasic variable `enter` rises by 1 and
     /// the other nonbasic ones stay; an empty list if `enter` is `None`. The only error is out of
     /// memory.
+    ///
+    /// The caller must ensure that a search may end here. With `enter`: variable 0 is not basic,
+    /// `enter` improves the objective, and no row limits its rise. With `None`: no constant is
+    /// below 0, and either no variable improves, or variable 0 is not basic and some variable
+    /// improves.
     pub fn ray(&self, alloc: Global, enter: Option<u32>) -> Result<Vec<F>, AllocError>
         requires { IsDone (fraction_dictionary F.value self.now) enter }
         ensures { IfOk result (λ list. map F.value list.items ≡ (last_with (fraction_dictionary F.value self.now) enter).changes) }

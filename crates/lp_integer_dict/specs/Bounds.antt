@@ -18,9 +18,10 @@ pub record IsBounded (d : Dictionary) (bound : ℕ) : Type 0 where
 abbrev pub over_denominators : (ℕ → ℕ → ℤ) → (ℕ → ℕ) → ℕ → ℕ → Number
 over_denominators n d i c = ratio (n i c) (d i)
 
--- Stored rows n over denominators d, with magnitudes at most `most`, such that the exchange of
--- variable 0 into row k stays within the bound; u, above 0, is the integer of row k at column 1,
--- that of variable 0.
+-- Stored rows with the integers n over the denominators d, where the denominator of row i and the
+-- magnitudes of its integers are at most `most i`. Column 1 is that of variable 0, and row k has
+-- the integer u, above 0, there. For each row that the exchange of variable 0 into row k makes, the
+-- estimate of its greatest magnitude, computed from `most`, is at most the bound.
 pub record DeferredNumbersWithin (n : ℕ → ℕ → ℤ) (d most : ℕ → ℕ) (bound k u : ℕ) : Type 0 where
   pub pivot : n k 1 ≡ pos u
   pub above : 0 < u

@@ -12,8 +12,8 @@ use Rattle.lp_integer_dict.specs.WithinBound.{line_denominator, row_most}
 -- variable's row. For the entering variable the row has the integer f, and the leaving variable's
 -- row has p. Divided by a common factor `shared` they are `of_leaving`, by which the leaving
 -- variable's row is multiplied, and `of_row`, by which the row is. The estimate of the difference,
--- from the magnitudes `most` in the row and `other` in the leaving variable's row, is at most the
--- limit.
+-- from bounds of the magnitudes, `most` in the row and `other` in the leaving variable's row, is at
+-- most the limit.
 pub record IsPairWithin (f p : ℤ) (most other limit : ℕ) : Type 0 where
   pub of_row : ℤ
   pub of_leaving : ℤ
@@ -24,9 +24,9 @@ pub record IsPairWithin (f p : ℤ) (most other limit : ℕ) : Type 0 where
   pub within_bound : nat_abs of_row * most + nat_abs of_leaving * other ≤ limit
 
 -- In an exchange a row has the integer f for the entering variable, and the row of the leaving
--- variable has p. With f and p, divided by their greatest common divisor, as multipliers of the two
--- rows, the estimate of the difference, from the rows' greatest magnitudes `most` and `other`,
--- exceeds the limit.
+-- variable has p. Divided by their greatest common divisor, p is `of_row`, by which the row is
+-- multiplied, and f is `of_leaving`, by which the leaving variable's row is. The estimate of the
+-- difference, from the rows' greatest magnitudes `most` and `other`, exceeds the limit.
 pub record ReducedPairExceeds (f p : ℤ) (most other limit : ℕ) : Type 0 where
   pub of_row : ℤ
   pub of_leaving : ℤ
@@ -34,50 +34,61 @@ pub record ReducedPairExceeds (f p : ℤ) (most other limit : ℕ) : Type 0 wher
   pub no_bound : limit < nat_abs of_row * most + nat_abs of_leaving * other
 
 -- In an exchange a row has the integer f for the entering variable, and the row of the leaving
--- variable has p. The estimate of the difference of their multiples, from the rows' greatest
--- magnitudes `most` and `other`, exceeds the limit: with f and p as multipliers and, if p is above
--- 0, also with f and p divided by their greatest common divisor.
+-- variable has p. The estimate of the difference of p times the row and f times the leaving
+-- variable's row, from the rows' greatest magnitudes `most` and `other`, exceeds the limit. If p is
+-- above 0, so does the estimate with f and p divided by their greatest common divisor.
 pub record PairExceeds (f p : ℤ) (most other limit : ℕ) : Type 0 where
   pub plain : limit < nat_abs p * most + nat_abs f * other
   pub reduced : pos 0 <ℤ p → ReducedPairExceeds f p most other limit
 
--- The measure m of the row at `place`, computed from the stored rows: its integer at `column`, and
--- a bound of the magnitudes of its integers and its denominator.
+-- The measure m of the row at `place` of the dictionary that the stored rows `lines` mean; if
+-- `deferred` is Some k, the exchange of variable 0 into row k is still to be made in them. m has
+-- the integer of the row at `column`, over the denominator `line_denominator`, and a bound of the
+-- magnitudes in the row (`row_most`).
 pub record IsMeasured (lines : List Line) (deferred : Option ℕ) (place column : ℕ) (m : Measure) : Type 0 where
   pub number : ratio m.number (line_denominator deferred lines place) ≡ numbers_above deferred (lines_number lines) place column
   pub most : m.most ≡ row_most deferred lines place
 
--- a bound of the magnitudes in all rows of the dictionary, if `top` is a bound of those in the
--- stored rows and variable 0 is deferred in a row (Some) or not (None)
+-- a bound of the magnitudes in all rows of a dictionary, where `top` is a bound of those in the
+-- stored rows: `top` if these are the rows of the dictionary (None), or twice its square if the
+-- exchange of variable 0 into a stored row is still to be made (Some)
 abbrev pub rows_top : Option ℕ → ℕ → ℕ
 rows_top None top = top
 rows_top (Some k) top = top * top + top * top
 
--- The magnitudes in each row of the dictionary have a bound (`row_most`) that is at most `top`, and
--- twice the square of `top` is at most `bound`.
+-- The magnitudes in each row of the dictionary that the stored rows `lines` mean have a bound
+-- (`row_most`) that is at most `top`, and twice the square of `top` is at most `bound`. If
+-- `deferred` is Some k, the exchange of variable 0 into row k is still to be made in them.
 pub record IsRoomy (lines : List Line) (deferred : Option ℕ) (bound : ℕ) : Type 0 where
   pub top : ℕ
   pub rows : (i : ℕ) → i < length lines → row_most deferred lines i ≤ top
   pub square : top * top + top * top ≤ bound
 
--- The row at `place` of the dictionary is a list of integers over `denominator`; neither their
--- magnitudes nor the denominator exceed `most`, and the integer at `column` is `number`.
+-- The row at `place` of the dictionary that the stored rows `lines` mean is a list of integers over
+-- `denominator`; the magnitudes of the integers and the denominator are at most `most`, and the
+-- integer at `column` is `number`. If `deferred` is Some k, the exchange of variable 0 into row k
+-- is still to be made in them.
 pub record IsRowOver (lines : List Line) (deferred : Option ℕ) (place column : ℕ) (number : ℤ) (denominator most : ℕ) : Type 0 where
   pub positive : 0 < denominator
   pub low : denominator ≤ most
   pub number_is : ratio number denominator ≡ numbers_above deferred (lines_number lines) place column
   pub each : (c : ℕ) → (n : ℤ) × (ratio n denominator ≡ numbers_above deferred (lines_number lines) place c) × (nat_abs n ≤ most)
 
--- The measure m of the row at `place` in lowest terms: no divisor but 1 divides all the row's
--- integers and its denominator, and m has the greatest magnitude of these.
+-- The measure m of the row at `place`, in lowest terms, of the dictionary that the stored rows
+-- `lines` mean; if `deferred` is Some k, the exchange of variable 0 into row k is still to be made
+-- in them. No divisor but 1 divides all integers of the row and its denominator. m has the integer
+-- at `column`, and the greatest magnitude of the integers and the denominator.
 pub record IsLowestRow (lines : List Line) (deferred : Option ℕ) (place column : ℕ) (m : Measure) : Type 0 where
   pub denominator : ℕ
   pub row : IsRowOver lines deferred place column m.number denominator m.most
   pub reduced : (d : ℕ) → d ∣ denominator → ((c : ℕ) (n : ℤ) → ratio n denominator ≡ numbers_above deferred (lines_number lines) place c → d ∣ nat_abs n) → d ≡ 1
   pub least : (b : ℕ) → denominator ≤ b → ((c : ℕ) (n : ℤ) → ratio n denominator ≡ numbers_above deferred (lines_number lines) place c → nat_abs n ≤ b) → m.most ≤ b
 
--- For row i and the row of the leaving variable, at position `leaving`, the estimate of an exchange
--- at `column` (`IsPairWithin`) is at most the bound.
+-- In the dictionary that the stored rows `lines` mean, row i and the row of the leaving variable,
+-- at `leaving`, can each be written as integers over a denominator (`IsRowOver`) such that the
+-- estimate of what the exchange with the variable at `column` makes of row i (`IsPairWithin`) is at
+-- most the bound. If `deferred` is Some k, the exchange of variable 0 into row k is still to be
+-- made in the stored rows.
 pub record IsPairFit (lines : List Line) (deferred : Option ℕ) (leaving column bound i : ℕ) : Type 0 where
   pub number : ℤ
   pub of_leaving : ℤ
@@ -89,13 +100,18 @@ pub record IsPairFit (lines : List Line) (deferred : Option ℕ) (leaving column
   pub row_leaving : IsRowOver lines deferred leaving column of_leaving denominator_leaving most_leaving
   pub within_bound : IsPairWithin number of_leaving most most_leaving bound
 
--- for each of the first n rows, except the leaving variable's, paired with the row of the leaving
--- variable, the estimate of an exchange at `column` is at most the bound
+-- in the dictionary that the stored rows `lines` mean, for each of the first n rows, except that of
+-- the leaving variable, at `leaving`, the estimate of what the exchange with the variable at
+-- `column` makes of it is at most the bound (`IsPairFit`). If `deferred` is Some k, the exchange of
+-- variable 0 into row k is still to be made in the stored rows
 abbrev pub ArePairsFit : List Line → Option ℕ → ℕ → ℕ → ℕ → ℕ → Type 0
 ArePairsFit lines deferred leaving column bound n = (i : ℕ) → i < n → i ≢ leaving → IsPairFit lines deferred leaving column bound i
 
--- For some row and the row of the leaving variable, each in lowest terms, the estimate of an
--- exchange at `column` (`PairExceeds`) exceeds the bound.
+-- In the dictionary that the stored rows `lines` mean, the row of the leaving variable is at
+-- `leaving`, and some other row is at `at`. With both in lowest terms (`IsLowestRow`), the estimate
+-- of what the exchange with the variable at `column` makes of the row at `at` exceeds the bound
+-- (`PairExceeds`). If `deferred` is Some k, the exchange of variable 0 into row k is still to be
+-- made in the stored rows.
 pub record IsSomePairCrowded (lines : List Line) (deferred : Option ℕ) (leaving column bound : ℕ) : Type 0 where
   pub at : ℕ
   pub within : at < length lines

@@ -14,8 +14,9 @@ use Rattle.lp_integer_dict.specs.Pairs.{IsSomePairCrowded}
 abbrev pub row_of : ℕ → ℕ → ℕ
 row_of rows i = if nat_lt i rows then i else rows
 
--- the dictionary that stored rows mean, with the objective after the rows; if variable 0 is
--- deferred in the row `deferred`, it results from the exchange of variable 0 into that row
+-- the dictionary that the stored rows `lines` mean, with the objective after the rows of the
+-- variables `basic`; `variables` is the greatest number of a variable. If `deferred` is Some k, the
+-- exchange of variable 0 into row k is still to be made in the stored rows
 abbrev pub whole_dictionary : ℕ → List ℕ → List Line → Option ℕ → Dictionary
 whole_dictionary variables basic lines deferred =
     record {
@@ -39,8 +40,10 @@ abbrev pub integer_dictionary : WholeTableau → Dictionary
 integer_dictionary t = whole_dictionary t.variables t.basic t.lines t.deferred
 
 -- The invariant of a tableau: it has a stored row for each basic variable and one for the
--- objective, whose numbers stay within the bound; variable 0 is deferred exactly if it is basic, in
--- its row; column numbers have at most 32 bits; and the dictionary satisfies `IsProper`.
+-- objective; the dictionary that these rows mean stays within the bound (`AreWhole`); the exchange
+-- of variable 0 is deferred exactly if variable 0 is basic, in the row of variable 0; column
+-- numbers have at most 32 bits; and the dictionary satisfies `IsProper`, the invariant of a
+-- program's dictionaries.
 pub record IsWhole (t : WholeTableau) : Type 0 where
   pub sized : t.variables + 2 < 2 ^ 32
   pub paired : length t.lines ≡ length t.basic + 1
@@ -48,26 +51,29 @@ pub record IsWhole (t : WholeTableau) : Type 0 where
   pub is_deferred : IsPlace t.basic 0 t.deferred
   pub proper : IsProper (integer_dictionary t)
 
--- the row in which the stored rows are exchanged when the variable of row k leaves: the row in
--- which variable 0 is deferred, or k if variable 0 is not deferred
+-- the row in which the stored rows are exchanged when the variable of row k leaves: the row into
+-- which the exchange of variable 0 is deferred (Some), or k if none is deferred (None)
 abbrev pub kept_place : Option ℕ → ℕ → ℕ
 kept_place None k = k
 kept_place (Some z) k = z
 
--- the stored rows might exceed the bound in the pivot p by row k: if variable 0 enters, when its
--- exchange is deferred; if another variable enters, in the exchange of the stored rows
+-- the stored rows might exceed the bound in the pivot p, where the variable of row k leaves: if
+-- variable 0 enters, by the estimates of its exchange into row k (`DeferredExceeds`); if another
+-- variable enters, in its exchange into the row `kept_place` (`ExchangeExceeds`), which is the row
+-- into which an exchange of variable 0 is deferred, or k if none is
 abbrev pub AreCrowded : WholeTableau → Pivot → ℕ → Type 0
 AreCrowded t p k =
     ((p.enter ≡ 0) × DeferredExceeds k t.lines t.bound)
     ⊎ ((p.enter ≢ 0) × ExchangeExceeds t.bound (p.enter + 1) (kept_place t.deferred k) k t.lines)
 
--- the pivot p by row k might exceed the bound: by the estimate for some other row and row k, or in
--- the stored rows
+-- the pivot p, where the variable of row k leaves, might exceed the bound: by the estimate of what
+-- it makes of some other row (`IsSomePairCrowded`), or in the stored rows (`AreCrowded`)
 abbrev pub IsPivotCrowded : WholeTableau → Pivot → ℕ → Type 0
 IsPivotCrowded t p k = IsSomePairCrowded t.lines t.deferred k (p.enter + 1) t.bound ⊎ AreCrowded t p k
 
--- The result of the pivot p by row k. Ok: the exchanged dictionary. Err: the unchanged dictionary,
--- because its stored rows might exceed the bound in the pivot. The bound is unchanged.
+-- The result of the pivot p, where the variable of row k leaves. Ok: a tableau of the exchanged
+-- dictionary. Err: a tableau of the unchanged dictionary, whose stored rows might exceed the bound
+-- in the pivot (`AreCrowded`). The bound is unchanged.
 abbrev pub IsPivoted : WholeTableau → Pivot → ℕ → Result WholeTableau WholeTableau → Type 0
 IsPivoted t p k r =
     IfOk r (λ after. (integer_dictionary after ≡ exchanged (integer_dictionary t) p.enter k) × (after.bound ≡ t.bound))

@@ -13,8 +13,8 @@ pub record DeferredStaysWithin (k : ℕ) (p : Line) (lines : List Line) (bound :
   pub own : p.most ≤ bound
   pub others : (i : ℕ) (l : Line) → i ≢ k → slice_get lines i ≡ Some l → l.most * nat_abs (whole_at (wholes p) 1) + nat_abs (whole_at (wholes l) 1) * p.most ≤ bound
 
--- In the exchange of variable 0 into row k, the estimate of some resulting row exceeds the bound:
--- `DeferredStaysWithin` is false.
+-- In the exchange of variable 0 into row k, the estimate of the greatest magnitude in some
+-- resulting row exceeds the bound: `DeferredStaysWithin` is false.
 pub record DeferredExceeds (k : ℕ) (lines : List Line) (bound : ℕ) : Type 0 where
   pub pivot : Line
   pub there : slice_get lines k ≡ Some pivot
@@ -36,19 +36,21 @@ pub record IsDeferred (k : ℕ) (lines : List Line) (bound : ℕ) : Type 0 where
   pub within_bound : DeferredStaysWithin k pivot lines bound
 
 -- the dictionary that stored rows mean stays within the bound: if no exchange is deferred (None),
--- the stored rows do; if that of variable 0 into row k is, the rows that it makes do
+-- the stored rows do; if that of variable 0 into row k is (Some k), the rows that it makes do, and
+-- the integer of row k for variable 0 is above 0
 abbrev pub RowsStayWithin : Option ℕ → List Line → ℕ → Type 0
 RowsStayWithin None lines bound = AreBounded bound lines
 RowsStayWithin (Some k) lines bound = IsDeferred k lines bound
 
--- if variable 0 is deferred in a row, `above` is the integer of this row at the column; if it is in
--- none, `above` is any integer
+-- if the exchange of variable 0 into row k is deferred (Some k), `above` is the integer of the
+-- stored row k at the column; if none is deferred (None), `above` is any integer
 abbrev pub IsNumberAbove : Option ℕ → List Line → ℕ → ℤ → Type 0
 IsNumberAbove None lines column above = Unit {0}
 IsNumberAbove (Some k) lines column above = (l : Line) → slice_get lines k ≡ Some l → above ≡ whole_at (wholes l) column
 
 -- Stored rows with `width` columns, at least 2, and a bound of at most 127 bits within which the
--- dictionary that they mean stays; `deferred` is the row in which variable 0 is deferred, if it is.
+-- dictionary that they mean stays; `deferred` is the row into which the exchange of variable 0 is
+-- still to be made, or None.
 pub record AreWhole (lines : List Line) (deferred : Option ℕ) (width bound : ℕ) : Type 0 where
   pub are_lines : AreLines width lines
   pub wide : 1 < width
@@ -60,19 +62,23 @@ pub record AreWhole (lines : List Line) (deferred : Option ℕ) (width bound : �
 abbrev pub zero_after : Line → Line → Factors → ℕ
 zero_after l p f = nat_abs (f.line *ℤ whole_at (wholes l) 1 -ℤ f.pivot *ℤ whole_at (wholes p) 1)
 
--- after an exchange by these factors, one for each row, the estimate of each row is at most `top`
+-- after an exchange by the factors `plans`, one for each row, the estimate of the greatest
+-- magnitude in each row is at most `top`
 abbrev pub AreFactorsWithin : ℕ → List Factors → Type 0
 AreFactorsWithin top plans = (i : ℕ) (f : Factors) → slice_get plans i ≡ Some f → f.most ≤ top
 
 -- the exchange of variable 0 into the row `leaving`, made after an exchange by the factors `plans`,
--- keeps the estimate of each other row within the bound. Before the first exchange the row
--- `leaving` is l, with the factors g, and p is the pivot row
+-- keeps the estimate of the greatest magnitude in each other row within the bound. `lines` are the
+-- rows before the first exchange; of these, l is the row `leaving`, with the factors g, and p is
+-- the pivot row
 abbrev pub DeferredStaysWithinAfter : ℕ → Line → Line → Factors → List Line → List Factors → ℕ → Type 0
 DeferredStaysWithinAfter leaving p l g lines plans bound =
     (i : ℕ) (x : Line) (f : Factors) → i ≢ leaving → slice_get lines i ≡ Some x → slice_get plans i ≡ Some f → f.most * zero_after l p g + zero_after x p f * g.most ≤ bound
 
--- After an exchange of the row at `place` and the variable at `column`, the exchange of variable 0
--- into another row, at `leaving`, does not keep the estimate of each row within the bound.
+-- After an exchange of the row at `place` and the variable at `column`, by the factors `plans`,
+-- whose estimates for the other rows are at most the bound (`IsPlan`), the exchange of variable 0
+-- into another row, at `leaving`, does not keep the estimate of the greatest magnitude in each row
+-- other than `leaving` within the bound.
 pub record DeferredExceedsAfter (bound column place leaving : ℕ) (lines : List Line) : Type 0 where
   pub plans : List Factors
   pub pivot : Line
@@ -85,30 +91,34 @@ pub record DeferredExceedsAfter (bound column place leaving : ℕ) (lines : List
   pub planned : IsPlan bound column place lines pivot plans
   pub crowded : ¬ (DeferredStaysWithinAfter leaving pivot line factors lines plans bound)
 
--- an exchange of the row at `place` and the variable at `column` might exceed the bound, by the
--- estimates of its factors: in some row, or in the exchange of variable 0 into the row `leaving`
+-- an exchange of the row at `place` and the variable at `column` might exceed the bound, by
+-- estimates of the greatest magnitudes, from its factors: in some resulting row, or, if `leaving`
+-- is another row than that at `place`, in the exchange of variable 0 into the row at `leaving`
 -- after it
 abbrev pub FactorsExceed : ℕ → ℕ → ℕ → ℕ → List Line → Type 0
 FactorsExceed bound column place leaving lines =
     ((pivot : Line) × (slice_get lines place ≡ Some pivot) × IsSomeCrowded bound column place lines pivot) ⊎ DeferredExceedsAfter bound column place leaving lines
 
--- The factors `plans` of an exchange of the row at `place` and the variable at `column`, with
--- estimates within the bound. If `leaving` is another row, the exchange of variable 0 into it
--- afterwards stays within the bound too (`DeferredStaysWithinAfter`).
+-- The factors `plans` of an exchange of the row at `place` and the variable at `column`, where the
+-- estimate of the greatest magnitude in each resulting row, except that at `place`, is within the
+-- bound. If `leaving` is another row, the exchange of variable 0 into it afterwards stays within
+-- the bound too (`DeferredStaysWithinAfter`).
 pub record IsRoomyPlan (bound column place leaving : ℕ) (lines : List Line) (plans : List Factors) : Type 0 where
   pub planned : (p : Line) → slice_get lines place ≡ Some p → IsPlan bound column place lines p plans
   pub within_bound : (p l : Line) (g : Factors) → leaving ≢ place → slice_get lines place ≡ Some p → slice_get lines leaving ≡ Some l → slice_get plans leaving ≡ Some g → DeferredStaysWithinAfter leaving p l g lines plans bound
 
--- `lines` are the stored rows after an exchange of the row at `place`. No integer of them exceeds
--- the bound in magnitude; and if `leaving` is another row, the exchange of variable 0 into it,
--- which is deferred from then on, stays within the bound (`DeferredStaysWithin`).
+-- `lines` are the stored rows after an exchange of the row at `place`. The stored greatest
+-- magnitude (`most`) of each is at most the bound; and if `leaving` is another row, the exchange of
+-- variable 0 into it, which is deferred from then on, stays within the bound
+-- (`DeferredStaysWithin`).
 pub record ExchangedStayWithin (bound place leaving : ℕ) (lines : List Line) : Type 0 where
   pub bounded : AreBounded bound lines
   pub others : (p : Line) → leaving ≢ place → slice_get lines leaving ≡ Some p → DeferredStaysWithin leaving p lines bound
 
--- The rows `after` result from `before` by the exchange of the row at `place` and the variable at
--- `column`, and stay within the bound (`ExchangedStayWithin`); the variable of the row at `leaving`
--- leaves.
+-- The rows `after` result from `before` by the exchange of the stored row at `place` and the
+-- variable at `column`, and stay within the bound (`ExchangedStayWithin`). `leaving` is the row of
+-- the leaving variable in the dictionary; it can be another row than that at `place` while an
+-- exchange of variable 0 is deferred.
 pub record AreExchangedWithin (bound column place leaving : ℕ) (before after : List Line) : Type 0 where
   pub sized : length after ≡ length before
   pub are_lines : (width : ℕ) → AreLines width before → AreLines width after
@@ -122,15 +132,20 @@ pub record AreMade (column place : ℕ) (before made : List Line) : Type 0 where
   pub numbers : (i c : ℕ) → i < length before → lines_number made i c ≡ turned_at (lines_number before) column place i c
   pub lowest : AreLowest made
 
--- the rows that an exchange makes exceed the bound: the estimate of some row exceeds 127 bits, or
--- the rows that it makes, in lowest terms, do not stay within the bound
+-- the rows that the exchange of the stored row at `place` and the variable at `column` makes exceed
+-- the bound: the estimate of the greatest magnitude in some row exceeds 127 bits, or the rows that
+-- it makes, in lowest terms, do not stay within the bound (`ExchangedStayWithin`). `leaving` is the
+-- row of the leaving variable in the dictionary; it can be another row than that at `place` while
+-- an exchange of variable 0 is deferred
 abbrev pub MadeRowsExceed : ℕ → ℕ → ℕ → ℕ → List Line → Type 0
 MadeRowsExceed bound column place leaving lines =
     ((pivot : Line) × (slice_get lines place ≡ Some pivot) × IsSomeCrowded (2 ^ 127 - 1) column place lines pivot)
     ⊎ ((made : List Line) × AreMade column place lines made × ¬ (ExchangedStayWithin bound place leaving made))
 
--- An exchange of the row at `place` and the variable at `column` might exceed the bound: by the
--- estimate of its factors, and also by the rows that it makes.
+-- An exchange of the stored row at `place` and the variable at `column` might exceed the bound: by
+-- the estimate from its factors of the greatest magnitude in a row, and also by the rows that it
+-- makes. `leaving` is the row of the leaving variable in the dictionary; it can be another row than
+-- that at `place` while an exchange of variable 0 is deferred.
 pub record ExchangeExceeds (bound column place leaving : ℕ) (lines : List Line) : Type 0 where
   pub factors : FactorsExceed bound column place leaving lines
   pub made : MadeRowsExceed bound column place leaving lines
@@ -172,8 +187,9 @@ abbrev pub whole_or_zero : Option Line → ℕ → ℤ
 whole_or_zero None c = pos 0
 whole_or_zero (Some l) c = whole_at (wholes l) c
 
--- the integer at column c of row i of the dictionary that stored rows mean, over the row's
--- denominator, where variable 0 is deferred in row k (Some k) or not (None)
+-- the integer at column c of row i of the dictionary that stored rows mean, over the denominator
+-- `line_denominator`: with Some k, the exchange by which variable 0 enters in row k is still to be
+-- made in the stored rows; with None, no exchange is
 abbrev pub row_number : Option ℕ → List Line → ℕ → ℕ → ℤ
 row_number None lines i c = whole_or_zero (slice_get lines i) c
 row_number (Some k) lines i c =

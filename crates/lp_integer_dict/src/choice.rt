@@ -96,8 +96,9 @@ fn ratio_of(
     })
 }
 
-/// The basic variable of a row with the least constant below 0, and of several such the least.
-/// `None` if no constant is below 0. `deferred` is the row in which variable 0 is deferred.
+/// The basic variable of a row with the least constant below 0, and of several such the one with
+/// the least number. `None` if no constant is below 0. `deferred` is the row in which variable 0 is
+/// deferred.
 pub(crate) fn least_constant(
     lines: &[Line],
     deferred: Option<usize>,
@@ -119,8 +120,8 @@ pub(crate) fn least_constant(
 }
 
 /// The basic variable of a row with the least ratio of its constant to its number at `column`,
-/// among rows where that number is above 0, and of several such the least. `None` if there is no
-/// such row. `deferred` is the row in which variable 0 is deferred.
+/// among rows where that number is above 0, and of several such the one with the least number.
+/// `None` if there is no such row. `deferred` is the row in which variable 0 is deferred.
 pub(crate) fn least_ratio(
     lines: &[Line],
     deferred: Option<usize>,

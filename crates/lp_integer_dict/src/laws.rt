@@ -12,12 +12,17 @@ ghost use Rattle.lp_integer_rows.specs.Turning.{turned_at, swapped, with_row_neg
 /// `k` of the dictionary, but not in the stored rows, where its exchange is not made yet: Chvatal,
 /// Linear Programming, chapter 3.
 ///
-/// An exchange in row `k` at column `q` divides row `k` by its number at `q` and makes the numbers
-/// at `q` of all other rows 0 (`turned_at`). Of two exchanges in one row only the second counts
-/// (`own`). Let a variable other than 0 leave, by row `l`: then the stored rows are exchanged in
-/// row `k`, rows `k` and `l` are swapped, and variable 0 remains deferred (`other`, `above`). A row
-/// and its negation give the same exchange (`negated`). If variable 0 leaves, it is no longer
-/// deferred, and its column is 0 (`leaves`).
+/// `n` has the number of each row at each column. An exchange in row `k` at column `q` divides row
+/// `k` by its number at `q` and makes the numbers at `q` of all other rows 0; `turned_at` is the
+/// number of row `i` at column `c` after it. Except in `negated`, the number at which an exchange
+/// is made is required not to be 0. Of two exchanges in one row, at columns `z` and `q`, only the
+/// second counts (`own`). Let a variable other than 0 leave, by row `l`: then the stored rows are
+/// exchanged in row `k`, rows `k` and `l` are swapped, and variable 0 remains deferred in row `k`
+/// (`other`, `above`). In `other`, `z` is the column of variable 0, and `q` that of the entering
+/// variable. A row and its negation give the same exchange (`negated`). If variable 0 leaves, it is
+/// no longer deferred, and its column, 1, has only zeros (`leaves`). In `above` and `leaves`, `d`
+/// is the dictionary, `kept` are the stored rows, and `q` is the entering variable, which has
+/// column `q + 1`.
 pub fn turning_laws()
     ensures own { (n : ℕ → ℕ → Number) (z q k i c : ℕ) → n k z ≢ whole (pos 0) → n k q ≢ whole (pos 0) →
         turned_at (turned_at n z k) q k i c ≡ turned_at n q k i c }
@@ -41,7 +46,9 @@ pub fn turning_laws()
 ///
 /// In `lessened` a row has the integer `n` at some column and `f` for the entering variable, over
 /// the denominator `d`. The row of the leaving variable has `x` at that column and `p` for the
-/// entering variable, over `e`. `a` and `b` are `p` and `f` divided by a common factor `g`.
+/// entering variable, over `e`. `a` and `b` are `p` and `f` divided by a common factor `g`. In
+/// `compare_most` and `compare_below` the ratios are those of `r` to `a`, in a row over `d`, and of
+/// `s` to `b`, in a row over `e`.
 pub fn line_laws()
     ensures divided { (x : ℤ) (p e : ℕ) → 0 < e → 0 < p → ratio x e /ℚ ratio (pos p) e ≡ ratio x p }
     ensures lessened { (n x f b : ℤ) (d e p a g : ℕ) → 0 < d → 0 < e → 0 < a → 0 < g → p ≡ a * g → f ≡ b *ℤ pos g →
@@ -52,17 +59,23 @@ pub fn line_laws()
         (ratio r d /ℚ ratio (pos a) d <ℚ ratio s e /ℚ ratio (pos b) e) ↔ ((r *ℤ pos b) <ℤ (s *ℤ pos a)) }
 {}
 
-/// When the steps on rows of integers over common denominators fit under a limit. All steps of a
-/// ratio test fit if no integer and no denominator of the dictionary exceeds the limit (`ratios`).
+/// When the steps on rows of integers over common denominators fit under a limit, that is, compute
+/// no numerator or denominator beyond it. All steps of the ratio test of the entering variable `q`,
+/// in the pivot with the number `pivot`, fit if no integer and no denominator of the dictionary
+/// exceeds the limit (`ratios`).
 ///
-/// The estimate for two rows is an upper bound, computed from the greatest magnitudes of both, for
-/// the integers of the row that an exchange makes of them. Let one row have `ni` and `f` at two
-/// columns over the denominator `di`, and the row of the leaving variable `nk` and `p` there over
-/// `dk`. If the estimate for the two rows is at most the limit, both steps of the exchange at the
-/// first column, a product and a difference, fit (`pairs`).
+/// In `pairs` a row has the integer `ni` at some column and `f` for the entering variable, over the
+/// denominator `di`, and the row of the leaving variable has `nk` and `p` there, over `dk`. `mi` is
+/// at least `di` and the magnitude of `ni`, and `mk` is at least the magnitude of `nk`. The
+/// estimate of `IsPairWithin`, computed from `f`, `p`, `mi` and `mk`, bounds the integer that the
+/// exchange makes of `ni`. If it is at most the limit, both steps of the exchange at the column of
+/// `ni` fit: a product and a difference.
 ///
-/// Let variable 0 be deferred in stored rows. The dictionary that they mean has integers within a
-/// bound if the estimates of the deferred exchange are within it (`above`).
+/// In `above` the exchange of variable 0 into row `k` is still to be made in the stored rows, with
+/// the integers `n` over the denominators `d`, and `above` is the dictionary after it. Row `k` has
+/// the integer `u` for variable 0. No integer and no denominator of that dictionary exceeds the
+/// bound if no estimate does. Each row has an estimate of the magnitudes that the exchange makes in
+/// it, computed from the bounds `most` of the magnitudes in the stored rows.
 pub fn bound_laws()
     ensures ratios { (limit bound : ℕ) (d : Dictionary) (pivot q : ℕ) → bound ≤ limit → IsBounded d bound →
         AllFit (ratio_steps limit pivot d q) }

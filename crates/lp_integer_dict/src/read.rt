@@ -11,9 +11,9 @@ use lp_integers::cross_difference;
 /// A rational number: an integer over a denominator above 0. The two may have a common factor.
 #[derive(Clone, Copy)]
 pub struct Fraction {
-    /// The numerator of the number, not reduced by the denominator.
+    /// The numerator of the number; it may have a common factor with the denominator.
     pub numerator: i128,
-    /// The denominator of the number, above 0, not reduced by the numerator.
+    /// The denominator of the number, above 0; it may have a common factor with the numerator.
     pub denominator: u128,
 }
 

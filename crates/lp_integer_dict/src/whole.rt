@@ -62,9 +62,12 @@ fn place_among(basic: &[u32], variable: u32) -> Option<usize>
 
 impl Whole {
     /// The dictionary with these rows, one for each variable of `basic`, in the same order, and
-    /// after them the objective. `variables` is the greatest number of a variable. Variable 0 is
-    /// not basic. `None` exactly if the greatest magnitude that is stored with some row exceeds
-    /// `bound`.
+    /// after them the objective. `variables` is the greatest number of a variable. `None` exactly
+    /// if the greatest magnitude that is stored with some row exceeds `bound`.
+    ///
+    /// The caller must ensure that variable 0 is not basic, and that the dictionary is proper: the
+    /// basic variables are distinct, each occurs in its own row alone, with coefficient 1, and if
+    /// some constant is below 0, variable 0 has coefficient -1 in each row.
     pub fn of_lines(variables: u32, basic: Vec<u32>, lines: Vec<Line>, bound: u128) -> Option<Whole>
         requires sized { variables + 2 < 2 ^ 32 }
         requires small { bound < 2 ^ 127 }
@@ -111,8 +114,10 @@ impl Whole {
     }
 
     /// The number at a column of a row. `row` counts the rows from 0, and the objective follows the
-    /// last one. Column 0 is the constant, and variable v has column v + 1. Numerator and
-    /// denominator are at most the bound in magnitude.
+    /// last one. Column 0 is the constant, and variable v has column v + 1. The sum of a row's
+    /// coefficients times their variables is its constant; the objective is the sum for its own
+    /// row, less its constant. Numerator and denominator are at most the dictionary's bound in
+    /// magnitude.
     #[inline(always)]
     pub fn number(&self, row: usize, column: usize) -> Fraction
         requires row { row ≤ length self.now.basic }
@@ -141,9 +146,11 @@ impl Whole {
         }
     }
 
-    /// The variable with the least number of those that improve, that is, have a coefficient above
-    /// 0 in the objective of the phase; `None` exactly if none improves. The opening pivot must not
-    /// be required.
+    /// The variable with the least number of those that improve; `None` exactly if none improves. A
+    /// variable improves if it is neither basic nor variable 0 and has a coefficient above 0 in the
+    /// priced row, which is that of variable 0 while variable 0 is basic, else the objective. A row
+    /// equates the sum of its terms with a constant, so variable 0 falls as such a variable rises.
+    /// The opening pivot must not be required, that is, no row's constant is below 0.
     pub fn entering(&self) -> Option<u32>
         requires { ¬ (OpeningIsRequired (integer_dictionary self.now)) }
         ensures { MatchOption result ((v : ℕ) → ¬ (Improves (integer_dictionary self.now) v))
@@ -155,10 +162,12 @@ impl Whole {
         }
     }
 
-    /// The variable that improves with the greatest coefficient in the priced row, and of several
-    /// such variables the one with the least number; `None` exactly if none improves. The priced
-    /// row, which is visited once, is that of variable 0 while variable 0 is basic, and otherwise
-    /// the objective. The opening pivot must not be required.
+    /// Of the variables that improve, the one with the greatest coefficient in the priced row, and
+    /// of several such variables the one with the least number; `None` exactly if none improves. A
+    /// variable improves if it is neither basic nor variable 0 and has a coefficient above 0 in the
+    /// priced row, which is that of variable 0 while variable 0 is basic, else the objective. A row
+    /// equates the sum of its terms with a constant, so variable 0 falls as such a variable rises.
+    /// The opening pivot must not be required, that is, no row's constant is below 0.
     pub fn greatest(&self) -> Option<u32>
         requires { ¬ (OpeningIsRequired (integer_dictionary self.now)) }
         ensures { MatchOption result ((v : ℕ) → ¬ (Improves (integer_dictionary self.now) v)) (HasGreatest (integer_dictionary self.now)) }
@@ -169,9 +178,14 @@ impl Whole {
         }
     }
 
-    /// The variable that leaves when the variable `enter`, which improves, enters: of those that
-    /// tie in the ratio test the one with the least number. `None` exactly if no row limits the
-    /// rise of `enter`. All steps of the test fit under any limit that is at least the bound.
+    /// The variable that leaves when the variable `enter` enters: of those that tie in the ratio
+    /// test the one with the least number. `None` exactly if no row limits the rise of `enter`. No
+    /// step of the test computes a numerator or a denominator beyond the dictionary's bound.
+    ///
+    /// The caller must ensure that `enter` improves, that is, is neither basic nor variable 0 and
+    /// has a coefficient above 0 in the priced row (that of variable 0 while this is basic, else
+    /// the objective). A row equates the sum of its terms with a constant, so variable 0 falls as
+    /// `enter` rises.
     pub fn leaving(&self, enter: u32) -> Option<u32>
         requires { Improves (integer_dictionary self.now) enter }
         ensures choice { IsLeaving (integer_dictionary self.now) enter result }
@@ -426,14 +440,19 @@ impl Whole {
         Ok(same)
     }
 
-    /// The dictionary after the pivot `p`, which is legal, as the inner `Ok`: `p.enter` becomes
-    /// basic in the row of `p.leave`. If variable 0 leaves, it is removed. All steps of the
-    /// exchange fit under any limit that is at least the bound.
+    /// The dictionary after the pivot `p`, as the inner `Ok`: `p.enter` becomes basic in the row of
+    /// `p.leave`. If variable 0 leaves, its coefficients become 0. No step of the exchange computes
+    /// a numerator or a denominator beyond the dictionary's bound.
     ///
-    /// The inner `Err` is the dictionary, unchanged. It is returned if the integers of the result,
-    /// or of a step that leads to it, might exceed the bound. Estimates decide this, upper bounds
-    /// that are computed from the greatest magnitudes of the rows: one for each row paired with the
-    /// row of `p.leave`, and those for the stored rows.
+    /// The caller must ensure that `p` is legal: if some constant is below 0, variable 0 enters and
+    /// a basic variable with the least constant leaves; else a variable that improves (one whose
+    /// rise raises the objective or, while variable 0 is basic, lowers that) enters, and one that
+    /// ties in the ratio test leaves, variable 0 if it ties.
+    ///
+    /// The inner `Err` is the dictionary, unchanged. It is returned only if, for some row, an
+    /// estimate of the magnitudes after the pivot exceeds the bound. One estimate is of each row
+    /// other than that of `p.leave`, computed from these two rows in lowest terms. The others are
+    /// of the stored rows, in which the exchange of variable 0 may be deferred.
     ///
     /// The error is out of memory; the dictionary is then lost.
     pub fn pivot(self, alloc: Global, p: Pivot) -> Result<Result<Whole, Whole>, AllocError>

@@ -18,9 +18,9 @@ wholes l = l.numbers
 abbrev pub line_number : Line → ℕ → Number
 line_number l c = ratio (whole_at (wholes l) c) l.denominator
 
--- The invariant of a row: its integers and its denominator have at most 127 bits, none exceeds its
--- stored greatest magnitude (`most`), each column with an integer other than 0 has a mark, and the
--- first two integers are stored once more.
+-- The invariant of a row: its denominator is above 0, its integers and its denominator have at most
+-- 127 bits, none exceeds its stored greatest magnitude (`most`), each column with an integer other
+-- than 0 has a mark, a bit of `marks`, and the first two integers are stored once more.
 pub record IsLine (l : Line) : Type 0 where
   pub positive : 0 < l.denominator
   pub numbers_within : AreWithin (wholes l) l.most
@@ -38,9 +38,11 @@ pub record AreFactors (f p a b : ℤ) : Type 0 where
   pub first : a *ℤ pos shared ≡ p
   pub second : b *ℤ pos shared ≡ f
 
--- The factors f by which a row and the pivot row are multiplied in an exchange at a column, and
--- `most`, the estimate of the resulting row's integers: the sum, over these two rows, of the
--- factor's magnitude times the row's stored greatest magnitude. It is at most the bound.
+-- The factors f of a row and the pivot row in an exchange at a column: the pivot row's integer at
+-- the column, by which the row is multiplied, and the row's, by which the pivot row is, both
+-- divided by their greatest common divisor (`AreFactors`). `most` is the estimate of the resulting
+-- row's integers: the sum, over these two rows, of the factor's magnitude times the row's stored
+-- greatest magnitude. It is at most the bound.
 pub record IsPlanned (bound column : ℕ) (line pivot : Line) (f : Factors) : Type 0 where
   pub factors : AreFactors (whole_at (wholes line) column) (whole_at (wholes pivot) column) f.line f.pivot
   pub most : f.most ≡ nat_abs f.line * line.most + nat_abs f.pivot * pivot.most
@@ -48,16 +50,17 @@ pub record IsPlanned (bound column : ℕ) (line pivot : Line) (f : Factors) : Ty
 
 -- In an exchange at a column the estimate of a row's integers exceeds the bound. The estimate is
 -- the sum, over the row and the pivot row, of the factor's magnitude times the row's stored
--- greatest magnitude.
+-- greatest magnitude. The factors are the pivot row's integer at the column for the row, and the
+-- row's for the pivot row, both divided by their greatest common divisor (`AreFactors`).
 pub record IsCrowded (bound column : ℕ) (line pivot : Line) : Type 0 where
   pub of_line : ℤ
   pub of_pivot : ℤ
   pub factors : AreFactors (whole_at (wholes line) column) (whole_at (wholes pivot) column) of_line of_pivot
   pub no_bound : bound < nat_abs of_line * line.most + nat_abs of_pivot * pivot.most
 
--- The row `after` an exchange keeps the estimate of its factors f: its stored greatest magnitude is
--- at most that of f, and no integer exceeds, in magnitude, the difference of products by which it
--- is computed.
+-- The row `after` an exchange stays within the estimate of its factors f: its stored greatest
+-- magnitude (`most`) is at most that of f, and each of its integers is in magnitude at most the
+-- difference of products that f makes of the integers of `before` and of the pivot row.
 pub record IsWithinFactors (before pivot after : Line) (f : Factors) : Type 0 where
   pub most : after.most ≤ f.most
   pub magnitudes : (c : ℕ) → nat_abs (whole_at (wholes after) c) ≤ nat_abs (f.line *ℤ whole_at (wholes before) c -ℤ f.pivot *ℤ whole_at (wholes pivot) c)
@@ -75,21 +78,21 @@ abbrev pub IsReducedLine : Line → Type 0
 IsReducedLine l = (d : ℕ) → d ∣ l.denominator → AreDivided (wholes l) d → d ≡ 1
 
 -- A row is in lowest terms: no divisor but 1 divides all its integers and its denominator, and its
--- stored greatest magnitude is that of one of them.
+-- stored greatest magnitude (`most`) is at most the greatest magnitude among these.
 pub record IsLowest (l : Line) : Type 0 where
   pub reduced : IsReducedLine l
   pub least : (m : ℕ) → AreWithin (wholes l) m → l.denominator ≤ m → l.most ≤ m
 
--- The row `after` is `before` less the multiple of the pivot row that makes its number at `column`
--- zero, and it keeps the estimate of its factors.
+-- The row `after` is `before` less the multiple of the pivot row that makes the number at `column`
+-- zero, and it stays within the estimate of the factors f (`IsWithinFactors`).
 pub record IsLessenedLine (column : ℕ) (before pivot after : Line) (f : Factors) : Type 0 where
   pub is_line : IsLine after
   pub sized : length (wholes after) ≡ length (wholes before)
   pub numbers : (c : ℕ) → line_number after c ≡ line_number before c -ℚ line_number before column *ℚ (line_number pivot c /ℚ line_number pivot column)
   pub within : IsWithinFactors before pivot after f
 
--- The row `after` is `before` divided by its number at `column`, by integers of no greater
--- magnitude.
+-- The row `after` is `before` divided by its number at `column`. The integers of `after` have no
+-- greater magnitude.
 pub record IsDividedLine (column : ℕ) (before after : Line) : Type 0 where
   pub is_line : IsLine after
   pub sized : length (wholes after) ≡ length (wholes before)
@@ -97,7 +100,8 @@ pub record IsDividedLine (column : ℕ) (before after : Line) : Type 0 where
   pub most : after.most ≤ before.most
   pub magnitudes : (c : ℕ) → nat_abs (whole_at (wholes after) c) ≤ nat_abs (whole_at (wholes before) c)
 
--- The row `after` is `before` with the coefficient 0 for variable 0, which is at column 1.
+-- The row `after` is `before` with the coefficient 0 for variable 0, which is at column 1. Its
+-- stored greatest magnitude (`most`) is no greater.
 pub record IsForgottenLine (before after : Line) : Type 0 where
   pub is_line : IsLine after
   pub sized : length (wholes after) ≡ length (wholes before)
@@ -136,7 +140,8 @@ pub record AreForgotten (before after : List Line) : Type 0 where
   pub sized : length after ≡ length before
   pub each : (i : ℕ) (x y : Line) → slice_get before i ≡ Some x → slice_get after i ≡ Some y → IsForgottenLine x y
 
--- Row k is negated if its coefficient of variable 0 was negative; the other rows are unchanged.
+-- Row k is as before or negated, whichever has a positive coefficient of variable 0; the other rows
+-- are unchanged.
 pub record IsRaisedAt (k : ℕ) (before after : List Line) : Type 0 where
   pub sized : length after ≡ length before
   pub here : (x y : Line) → slice_get before k ≡ Some x → slice_get after k ≡ Some y → IsRaisedLine x y
@@ -149,12 +154,14 @@ pub record AreSwapped (k l : ℕ) (before after : List Line) : Type 0 where
   pub second : slice_get after l ≡ slice_get before k
   pub others : (i : ℕ) → i ≢ k → i ≢ l → slice_get after i ≡ slice_get before i
 
--- the factors of an exchange that leave a row as it is: 1 for the row, and 0 for the pivot row
+-- the factors of an exchange that leave a row as it is: 1 for the row, 0 for the pivot row, and as
+-- the estimate of its integers its stored greatest magnitude (`most`)
 abbrev pub own_factors : Line → Factors
 own_factors l = record { line = pos 1; pivot = pos 0; most = l.most }
 
--- The factors of the first n rows for an exchange at a column; those of the pivot row, which is at
--- `place`, leave it as it is.
+-- The list `plans` has the factors of the first n rows for an exchange at a column. For each row
+-- except the pivot row, the estimate of the resulting integers is at most the bound; the factors
+-- of the pivot row, which is at `place`, leave it as it is.
 pub record ArePlanned (bound column place : ℕ) (lines : List Line) (pivot : Line) (plans : List Factors) (n : ℕ) : Type 0 where
   pub sized : length plans ≡ n
   pub each : (i : ℕ) (l : Line) (f : Factors) → i ≢ place → slice_get lines i ≡ Some l → slice_get plans i ≡ Some f → IsPlanned bound column l pivot f
@@ -169,17 +176,19 @@ pub record IsSomeCrowded (bound column place : ℕ) (lines : List Line) (pivot :
   pub there : slice_get lines at ≡ Some line
   pub crowded : IsCrowded bound column line pivot
 
--- From each of the first n rows the multiple of the pivot row is subtracted that makes the row's
--- number at `column` zero. The row at `place`, where the pivot row is, and the rows after the first
--- n are unchanged.
+-- From each of the first n rows the multiple of the pivot row is subtracted, by the factors
+-- `plans`, that makes the row's number at `column` zero. The row at `place`, where the pivot row
+-- is, and the rows after the first n are unchanged.
 pub record AreLinesExchanged (column place : ℕ) (pivot : Line) (plans : List Factors) (before after : List Line) (n : ℕ) : Type 0 where
   pub sized : length after ≡ length before
   pub each : (i : ℕ) (x y : Line) (f : Factors) → i < n → i ≢ place → slice_get before i ≡ Some x → slice_get after i ≡ Some y → slice_get plans i ≡ Some f → IsLessenedLine column x pivot y f
   pub left : (i : ℕ) → n ≤ i → slice_get after i ≡ slice_get before i
   pub kept : slice_get after place ≡ slice_get before place
 
--- The factors of all rows for an exchange at `column`, where the integer of the pivot row, which is
--- at `place`, is above 0. The bound has at most 127 bits.
+-- The list `plans` has the factors of all rows for an exchange of the pivot row, which is at
+-- `place`, and the variable at `column`; the estimates of the integers of the other rows are at
+-- most the bound, and the bound has at most 127 bits. The integer of the pivot row at `column` is
+-- above 0.
 pub record IsPlan (bound column place : ℕ) (lines : List Line) (pivot : Line) (plans : List Factors) : Type 0 where
   pub small : bound < 2 ^ 127
   pub above : pos 0 <ℤ whole_at (wholes pivot) column
@@ -198,16 +207,17 @@ number_or_none (Some l) c = line_number l c
 abbrev pub lines_number : List Line → ℕ → ℕ → Number
 lines_number lines i c = number_or_none (slice_get lines i) c
 
--- The rows `after` result from `before` by the exchange of the row at `place` and the variable at
--- `column`, and keep the estimates of their factors.
+-- The rows `after` result from `before` by the exchange in which the variable at `column` becomes
+-- basic in the row at `place`, and each stays within the estimate of its factors in `plans`.
 pub record AreTurned (column place : ℕ) (plans : List Factors) (before after : List Line) : Type 0 where
   pub sized : length after ≡ length before
   pub are_lines : (width : ℕ) → AreLines width before → AreLines width after
   pub numbers : (i c : ℕ) → i < length before → lines_number after i c ≡ turned_at (lines_number before) column place i c
   pub within : (i : ℕ) (p x y : Line) (f : Factors) → slice_get before place ≡ Some p → slice_get before i ≡ Some x → slice_get after i ≡ Some y → slice_get plans i ≡ Some f → IsWithinFactors x p y f
 
--- the number that stored rows mean in row i at column c: the stored one if nothing is deferred,
--- else the one after the deferred exchange of variable 0 into row k
+-- the number of row i at column c that the stored numbers `kept` mean: the stored one if no
+-- exchange is deferred (None), else the one after the deferred exchange of variable 0, which is at
+-- column 1, into row k
 abbrev pub numbers_above : Option ℕ → (ℕ → ℕ → Number) → ℕ → ℕ → Number
 numbers_above None kept i c = kept i c
 numbers_above (Some k) kept i c = turned_at kept 1 k i c

@@ -10,11 +10,12 @@ use Rattle.lp_integers.specs.Lines.{whole_at}
 abbrev pub IsClear : Marks → ℕ → Type 0
 IsClear marks c = bit_at marks.bits (c % 128) ≡ 0
 
--- at each column without a mark the number is 0
+-- at each column without a mark, a bit of `marks` (`IsClear`), the number is 0
 abbrev pub AreMarked : List ℤ → Marks → Type 0
 AreMarked numbers marks = (c : ℕ) → IsClear marks c → whole_at numbers c ≡ pos 0
 
--- The constant and the number of variable 0 are those of the list, at its columns 0 and 1.
+-- The constant and the number of variable 0 that `l` stores are those of the list `numbers`, at its
+-- columns 0 and 1.
 pub record AreLeading (numbers : List ℤ) (l : Leading) : Type 0 where
   pub constant : l.constant ≡ whole_at numbers 0
   pub zero : l.zero ≡ whole_at numbers 1

@@ -45,13 +45,13 @@ pub record IsSomePast (parts : List Part) (multiple : ℕ) : Type 0 where
   pub there : slice_get parts at ≡ Some part
   pub past : 2 ^ 127 ≤ nat_abs part.numerator * (multiple / part.denominator)
 
--- over each common multiple of the denominators of at most 127 bits, some entry has a numerator of
--- more than 127 bits
+-- over each common multiple of the denominators that has at most 127 bits, some entry has a
+-- numerator of more than 127 bits
 abbrev pub HaveNoLine : List Part → Type 0
 HaveNoLine parts = (m : ℕ) → 0 < m → m < 2 ^ 127 → DivideAll parts (length parts) m → IsSomePast parts m
 
--- The list has, at the columns of the first n entries, the numerators of these over `multiple`, and
--- 0 at every other column.
+-- The list has `width` integers of at most 127 bits: at the columns of the first n entries the
+-- numerators of these entries over the denominator `multiple`, and 0 at every other column.
 pub record AreFilled (parts : List Part) (multiple width n : ℕ) (numbers : List ℤ) : Type 0 where
   pub sized : length numbers ≡ width
   pub small : AreWithin numbers (2 ^ 127 - 1)

@@ -10,7 +10,7 @@ use crate::leading::Leading;
 use crate::line::{Line, number_at};
 use std::alloc::Global;
 
-/// Sets a row's coefficient of variable 0 to 0.
+/// Sets a row's coefficient of variable 0, at column 1, to 0.
 fn forget(line: &mut Line)
     requires line { IsLine line.old }
     requires within { 1 < length (wholes line.old) }
@@ -20,7 +20,7 @@ fn forget(line: &mut Line)
     line.leading = Leading::of(&line.numbers);
 }
 
-/// Replaces the coefficient of variable 0 in each row with 0.
+/// Replaces the coefficient of variable 0, at column 1, in each row with 0.
 pub fn forget_zero(lines: &mut Vec<Line>)
     requires { (width : ℕ) × AreLines width lines.old.items × (1 < width) }
     ensures { AreForgotten lines.old.items lines.new.items }
@@ -31,7 +31,7 @@ pub fn forget_zero(lines: &mut Vec<Line>)
     }
 }
 
-/// Negates a row if its coefficient of variable 0 is below 0.
+/// Negates a row if its coefficient of variable 0, at column 1, is below 0.
 fn raise(line: &mut Line)
     requires line { IsLine line.old }
     requires within { 1 < length (wholes line.old) }
@@ -45,8 +45,8 @@ fn raise(line: &mut Line)
     }
 }
 
-/// Negates row `k`, counted from 0, if its coefficient of variable 0 is negative; that coefficient
-/// is required not to be 0.
+/// Negates row `k`, counted from 0, if its coefficient of variable 0, at column 1, is negative;
+/// that coefficient is required not to be 0.
 pub fn raise_at(lines: &mut Vec<Line>, k: usize)
     requires lines { (width : ℕ) × AreLines width lines.old.items × (1 < width) }
     requires within { k < length lines.old.items }

@@ -11,11 +11,16 @@ use lp_integers::Numbers;
 use std::alloc::{AllocError, Global};
 use std::mem;
 
-/// The factors for the exchange of the pivot row, which is at `place` in `lines` and passed as
-/// `pivot` too, and the variable at `column`: for each row the factor of the row and that of the
-/// pivot row. The factors for the pivot row itself leave it unchanged. `None` means that, for some
-/// other row, the estimate of the integers after the exchange exceeds `bound`. The only error is
-/// out of memory.
+/// The factors of each row of `lines` for the exchange that makes the variable at `column` basic in
+/// the pivot row. The pivot row is at `place` in `lines` and passed as `pivot` too; its integer at
+/// `column` must be above 0. Each row is multiplied by the first of its factors, and the pivot row
+/// times the second is subtracted, which makes the row 0 at `column`. The factors for the pivot row
+/// itself leave it unchanged.
+///
+/// The factors and the greatest magnitudes of both rows give an upper bound on the row's integers
+/// after the exchange; `None` means that for some row other than the pivot row this upper bound
+/// exceeds `bound`. Before the call no stored magnitude may exceed `bound`. The only error is out
+/// of memory.
 pub fn plan_lines(
     alloc: Global,
     lines: &[Line],
@@ -120,9 +125,9 @@ pub(crate) fn no_line(alloc: Global) -> Line {
 }
 
 /// Exchanges the basic variable of the row at `place` and the variable at `column`, in all rows.
-/// `plans` has the factors of each row, in the order of the rows. A row whose integers are great or
-/// were multiplied is also divided, integers and denominator, by its common divisor, so that its
-/// fractions stay the same. The only error is out of memory.
+/// `plans` must have the factors of each row for this exchange, in the order of the rows, as
+/// `plan_lines` gives them. A row that changes may also be divided, integers and denominator, by a
+/// common divisor, which leaves its fractions the same. The only error is out of memory.
 pub fn exchange_lines(
     alloc: Global,
     lines: &mut Vec<Line>,

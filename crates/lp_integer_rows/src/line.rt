@@ -122,9 +122,9 @@ pub fn number_at(line: &Line, column: usize) -> i128
     line.numbers.at(column)
 }
 
-/// The integer that a row has at a column, counted from 0. It is read from the list of integers
-/// only if the column has a mark and is not one of the first two columns, which makes the call fast
-/// for most columns.
+/// The integer that a row has at a column, counted from 0. The first two integers are stored once
+/// more, and at a column without a mark the integer is 0, so the call reads the list of integers
+/// for few columns only.
 #[inline(always)]
 pub fn marked_number_at(line: &Line, column: usize) -> i128
     requires line { IsLine line.now }
@@ -169,9 +169,9 @@ pub fn reduced_pair(f: i128, p: i128) -> (i128, i128)
     (p / divisor, f / divisor)
 }
 
-/// A number that the magnitude of no integer of `a` times one row minus `b` times another exceeds:
-/// |`a`| times `most` plus |`b`| times `other`, where `most` and `other` bound the magnitudes of
-/// the integers of the two rows. `None` if that number exceeds `bound`.
+/// A bound for the magnitudes of the integers of `a` times one row less `b` times another: |`a`|
+/// times `most` plus |`b`| times `other`, where `most` bounds the magnitudes of the integers of the
+/// one row and `other` those of the other row. `None` if this bound exceeds `bound`.
 pub fn within_bound(a: i128, most: u128, b: i128, other: u128, bound: u128) -> Option<u128>
     requires { bound < 2 ^ 127 }
     ensures { MatchOption result (bound < nat_abs a * most + nat_abs b * other) (λ m. (m ≡ nat_abs a * most + nat_abs b * other) × (m ≤ bound)) }
@@ -381,8 +381,9 @@ pub(crate) fn reduce(alloc: Global, line: &mut Line) -> Result<(), AllocError>
 }
 
 /// Divides the integers and the denominator of a row by their greatest common divisor, so that the
-/// fractions that they represent stay the same. Then sets `most`, which may be any bound before, to
-/// the greatest magnitude among the integers and the denominator. The error is out of memory.
+/// fractions that they represent stay the same. Then sets `most`, which before the call may exceed
+/// all of them, to the greatest magnitude among the integers and the denominator. The error is out
+/// of memory.
 pub fn settle(alloc: Global, line: &mut Line) -> Result<(), AllocError>
     requires { IsLine line.old }
     ensures same { IfOk result (λ _. IsSameLine line.old line.new) }

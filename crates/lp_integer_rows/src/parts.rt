@@ -160,9 +160,9 @@ fn marks_of(parts: &[Part]) -> Marks
 }
 
 /// The row with `width` columns that has the entries `parts`, which are at distinct columns, and 0
-/// at every other column. `None` if no common multiple of at most 127 bits of their denominators
-/// can be the denominator of the row: for each, some integer of the row has more than 127 bits. The
-/// only error is out of memory.
+/// at every other column. `None` if over each common multiple of the entries' denominators that has
+/// at most 127 bits, some integer of the row has more than 127 bits. The only error is out of
+/// memory.
 pub fn line_of_parts(
     alloc: Global,
     width: usize,

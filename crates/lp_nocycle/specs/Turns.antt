@@ -11,23 +11,28 @@ use Rattle.lp_core.specs.Pivots.{IsChosen}
 use Rattle.lp_core.specs.LargestCoefficient.{HasTurned}
 use Rattle.lp_nocycle.specs.PivotCount.{twice_sets, variable_count, IsInterrupted}
 
--- a choice of the entering variable follows Bland's rule whenever the search has turned to that
--- rule
+-- a choice of the entering variable q at a dictionary d, to which `pivots` lead from the dictionary
+-- `first`, follows Bland's rule whenever the search has turned to that rule in the phase of d
+-- (`HasTurned`), after as many successive degenerate pivots as there are variables, variable 0
+-- included
 abbrev pub TurnsToBland : (Dictionary → List Pivot → Dictionary → ℕ → Type 0) → Type 0
 TurnsToBland choice =
     (first : Dictionary) (pivots : List Pivot) (d : Dictionary) (q : ℕ) → choice first pivots d q → HasTurned first pivots d → IsChosen Bland d q
 
--- a bound of the pivots over n variables: twice the number of their sets, times n + 1, as a basis
--- may recur once for each count of successive degenerate pivots before the turn, from 0 to n - 1,
--- and once after the turn
+-- a bound of the number of pivots over n variables, where n is `variables`: 2 times 2^n, twice the
+-- number of subsets of the variables, times n + 1. In a phase a basis may occur once for each count
+-- of successive degenerate pivots, from 0 to n - 1, before the search turns to Bland's rule, and
+-- once after that
 abbrev pub pivots_by_turn : ℕ → ℕ
 pivots_by_turn variables = twice_sets variables * (variables + 1)
 
--- an answer has fewer pivots than `pivots_by_turn` of the number of variables of the standard form
+-- an answer has fewer pivots than 2 · 2^n · (n + 1) (`pivots_by_turn`), where n is the number of
+-- variables of the standard form, slacks and variable 0 included
 abbrev pub HasFewPivotsByTurn : {F : Type 0} → (F → Number) → Lp F → Answer F → Type 0
 HasFewPivotsByTurn value lp answer = length answer.pivots < pivots_by_turn (variable_count value lp)
 
--- if the limit of pivots is at least `pivots_by_turn` of the number of variables of the standard
--- form, the end is not Interrupted
+-- if the limit of pivots `iterlim` is at least 2 · 2^n · (n + 1) (`pivots_by_turn`), where n is the
+-- number of variables of the standard form, slacks and variable 0 included, the end is not
+-- Interrupted
 abbrev pub EndsUninterruptedByTurn : {F : Type 0} → (F → Number) → Lp F → ℕ → Answer F → Type 0
 EndsUninterruptedByTurn value lp iterlim answer = pivots_by_turn (variable_count value lp) ≤ iterlim → ¬ (IsInterrupted answer.end)

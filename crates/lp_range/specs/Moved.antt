@@ -26,8 +26,8 @@ rows_with_right (suc i) right (row ∷ rows) = row ∷ rows_with_right i right r
 abbrev pub with_right : ℕ → Number → Lp Number → Lp Number
 with_right i right lp = record lp { rows = rows_with_right i right lp.rows }
 
--- the cost of column k after the cost of column j is replaced; before that, the objective's cost is
--- 1 and each other is 0
+-- the cost of column k after `cost` replaces the cost of column j; before that, the cost of the
+-- objective's column is 1 and that of each other column is 0
 abbrev pub costs_with : {F : Type 0} → Lp F → ℕ → Number → ℕ → Number
 costs_with lp j cost k = if j == k then cost else objective_costs lp k
 
@@ -36,7 +36,8 @@ abbrev pub cost_at : {F : Type 0} → Lp F → (ℕ → Number) → List Number 
 cost_at {F} lp costs x = sum_by_ℚ (λ (q : ℕ × Column F). costs q.0 *ℚ value_of_column x q.0) (enumerate_from 0 lp.columns)
 
 -- the bound that duals give of the sum of each column's cost times its value: an upper bound when
--- maximizing, else a lower bound; None if a bound that it uses does not exist
+-- maximizing, else a lower bound; None if it uses a lower or upper bound of a column or of a row's
+-- sum that does not exist
 abbrev pub bound_of_costs : {F : Type 0} → (F → Number) → Lp F → (ℕ → Number) → List Number → Option Number
 bound_of_costs value lp costs duals = if lp.maximize then high value lp costs duals else low value lp costs duals
 
@@ -47,8 +48,8 @@ MeetsBoundWithRight value lp duals i right =
     (x : List Number) × Feasible itself (with_right i right (lp_numbers value lp)) x
     × (dual_bound itself (with_right i right (lp_numbers value lp)) duals ≡ Some (value_of_column x lp.objective))
 
--- With this cost of column j, there are duals whose bound of the costs equals the sum of cost times
--- level over the columns.
+-- With this cost of column j, there are duals, one for each row, whose bound (`bound_of_costs`) of
+-- the sum of cost times value over the columns equals this sum at the values `levels`.
 abbrev pub MeetsBoundWithCost : {F : Type 0} → (F → Number) → Lp F → List Number → ℕ → Number → Type 0
 MeetsBoundWithCost value lp levels j cost =
     (duals : List Number) × (length duals ≡ length lp.rows)

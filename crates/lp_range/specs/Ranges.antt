@@ -24,8 +24,9 @@ use Rattle.lp_range.specs.Spans.{Gain, Span, span}
 abbrev pub IsOptimum : {F : Type 0} → Answer F → Type 0
 IsOptimum {F} answer = (levels row_levels duals reduced : List F) × (answer.end ≡ Optimal levels row_levels duals reduced)
 
--- these legal pivots lead from the first dictionary of a program to the dictionary `last`, and all
--- their steps fit
+-- these legal pivots lead from the first dictionary of a program, where no pivot precedes them, to
+-- the dictionary `last`, and no step exceeds the limit on the size of numbers; the first of them is
+-- pivot 1
 abbrev pub LeadTo : {F : Type 0} → (F → Number) → ℕ → Lp F → List Pivot → Dictionary → Type 0
 LeadTo value limit lp pivots last = LeadsWithin (ByRule Legal) limit 1 [] (first_dictionary (standard_form value lp)) pivots last
 
@@ -39,10 +40,11 @@ span_value value None = None
 span_value value (Some interval) = Some (interval_value value interval)
 
 module _ (limit : ℕ) (d : Dictionary) where
-  -- How the constant of row k of the dictionary changes with the right side of a row of the
-  -- program, per unit; v is the first slack of the program's row. For `=l=` it is the slack's
-  -- coefficient in row k, for `=g=` that negated, for an equation the difference of its two slacks'
-  -- coefficients, and for `=n=` it is 0.
+  -- The constant of row k of the dictionary, and how much it rises if the right side of a row of
+  -- the program rises by 1; v is the first slack of that row. For `=l=` this is the slack's
+  -- coefficient in row k, for `=g=` that negated, for an equation the difference of the
+  -- coefficients of its two slacks, and for `=n=` it is 0. Only the difference can exceed the limit
+  -- on the size of numbers (`fits`).
   abbrev pub right_gain : Sense → ℕ → ℕ → Gain
   right_gain sense.E v k =
       record { amount = constant_at d k; each = entry_at d k v -ℚ entry_at d k (v + 1); fits = difference_fits limit (entry_at d k v) (entry_at d k (v + 1)) }
@@ -50,12 +52,14 @@ module _ (limit : ℕ) (d : Dictionary) where
   right_gain sense.G v k = record { amount = constant_at d k; each = neg_ℚ (entry_at d k v); fits = true }
   right_gain sense.N v k = record { amount = constant_at d k; each = whole (pos 0); fits = true }
 
-  -- how the constants of all rows change with the right side of a row of this sense whose first
-  -- slack is v
+  -- the constants of all rows of the dictionary, and how they change with the right side of a row
+  -- of the program of this sense (`right_gain`); v is the first slack of that row
   abbrev pub right_gains : Sense → ℕ → List Gain
   right_gains s v = map (right_gain s v) (range_with_len 0 (length d.basic))
 
-  -- the ranges of the right sides of these rows; v is the first slack of the first row
+  -- for each of these rows, the values that its right side may take while each constant of the
+  -- dictionary remains at least 0, or None if a step exceeds the limit on the size of numbers; v is
+  -- the first slack of the first row
   abbrev pub right_spans : {F : Type 0} → (F → Number) → ℕ → List (Row F) → List (Option Span)
   right_spans value v [] = []
   right_spans value v (row ∷ rows) = span limit (value row.right) (right_gains row.sense v) ∷ right_spans value (v + rows_of_sense row.sense) rows
@@ -68,43 +72,52 @@ module _ (limit : ℕ) (d : Dictionary) where
   abbrev pub change : ℕ → ℕ → Number
   change q v = change_by_row d q v (row_of_basic d v)
 
-  -- by how much a column with this shift and first variable v changes if the variable q, which is
-  -- not basic, rises by 1
+  -- by how much a column changes if the variable q, which is not basic, rises by 1. The column is
+  -- given by the number v of its first variable and by its shift, how variables express it: a bound
+  -- plus variable v (`from_lower`), a bound less variable v (`from_upper`), or variable v less
+  -- variable v + 1 (`free`)
   abbrev pub column_change : ℕ × Shift → ℕ → Number
   column_change (v, from_lower b) q = change q v
   column_change (v, from_upper b) q = neg_ℚ (change q v)
   column_change (v, free) q = change q v -ℚ change q (v + 1)
 
-  -- whether the step fits that computes by how much a column changes as q rises by 1: the
-  -- difference for a free column, which has two variables; other columns need no step
+  -- whether the step that computes by how much a column changes as q rises by 1 stays within the
+  -- limit on the size of numbers: the difference for a free column, which has two variables; other
+  -- columns need no step
   abbrev pub column_change_fits : ℕ × Shift → ℕ → Bool
   column_change_fits (v, from_lower b) q = true
   column_change_fits (v, from_upper b) q = true
   column_change_fits (v, free) q = difference_fits limit (change q v) (change q (v + 1))
 
-  -- How far q is from entering, and how this changes with the cost of column c, per unit. The
-  -- amount is the negated coefficient of q in the objective. Per unit of cost it changes by as much
-  -- as the column does if q rises by 1, negated when maximizing.
+  -- How far q is from entering, and how this changes with the cost of column c, per unit; c is the
+  -- first variable of the column and its shift. The amount is the negated coefficient of q in the
+  -- objective. Per unit of cost it changes by as much as the column does if q rises by 1, negated
+  -- when maximizing.
   abbrev pub cost_gain : Bool → ℕ × Shift → ℕ → Gain
   cost_gain maximize c q =
       record { amount = neg_ℚ (entry_at d (length d.basic) q); each = neg_ℚ (directed maximize (column_change c q)); fits = column_change_fits c q }
 
-  -- how far each nonbasic variable is from entering, and how this changes with the cost of column c
+  -- how far each nonbasic variable is from entering, and how this changes with the cost of column
+  -- c, given by its first variable and its shift
   abbrev pub cost_gains : Bool → ℕ × Shift → List Gain
   cost_gains maximize c = map (cost_gain maximize c) nonbasic_variables
 
 -- The ranges of right sides, one for each row: the values that the right side may take while each
--- constant of the dictionary remains at least 0. None if a step does not fit.
+-- constant of the dictionary remains at least 0. None if a step exceeds the limit on the size of
+-- numbers. The first slack follows the `variables_of` variables of the columns, which are numbered
+-- from 1.
 abbrev pub rights : {F : Type 0} → (F → Number) → ℕ → Lp F → Dictionary → List (Option Span)
 rights value limit lp d = right_spans limit d value (variables_of value lp + 1) lp.rows
 
--- the ranges of the costs of these columns, each with its first variable and shift; j is the number
--- of the first column
+-- for each of these columns, given by its first variable and its shift, the values that its cost
+-- may take while no variable improves, or None if a step exceeds the limit on the size of numbers.
+-- j is the number of the first column
 abbrev pub cost_spans : {F : Type 0} → ℕ → Dictionary → Lp F → ℕ → List (ℕ × Shift) → List (Option Span)
 cost_spans limit d lp j columns =
     map (λ (p : ℕ × (ℕ × Shift)). span limit (objective_costs lp p.0) (cost_gains limit d lp.maximize p.1)) (enumerate_from j columns)
 
 -- The ranges of costs, one for each column: the values that the cost, which is 1 for the objective
--- and else 0, may take while no variable improves. None if a step does not fit.
+-- and else 0, may take while no variable improves. None if a step exceeds the limit on the size of
+-- numbers.
 abbrev pub costs : {F : Type 0} → (F → Number) → ℕ → Lp F → Dictionary → List (Option Span)
 costs value limit lp d = cost_spans limit d lp 0 (columns_of value lp)

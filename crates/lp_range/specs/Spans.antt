@@ -12,7 +12,7 @@ use Rattle.lp_core.specs.Feasible.{KeepsLower, KeepsUpper}
 use Rattle.lp_core.specs.Steps.{quotient_fits}
 
 -- An amount, what it gains for each unit by which a number moves, and whether the step that
--- computes this gain fits.
+-- computes this gain fits under the limit of numerators and denominators.
 pub record Gain : Type 0 where
   pub amount : Number
   pub each : Number
@@ -45,15 +45,15 @@ abbrev pub lesser_end : Option Number → Number → Option Number
 lesser_end None x = Some x
 lesser_end (Some e) x = if is_lt (number_cmp x e) then Some x else Some e
 
--- the least move allowed so far, if there is one, raised to the move e if an amount grows with the
--- move, that is, if its gain is Greater than 0
+-- the least move allowed so far, if there is one, raised to e, the move at which an amount becomes
+-- 0, if the amount grows with the move, that is, if its gain is Greater than 0
 abbrev pub low_by : Ordering → Option Number → Number → Option Number
 low_by Less low e = low
 low_by Equal low e = low
 low_by Greater low e = greater_end low e
 
--- the greatest move allowed so far, if there is one, lowered to the move e if an amount falls with
--- the move, that is, if its gain is Less than 0
+-- the greatest move allowed so far, if there is one, lowered to e, the move at which an amount
+-- becomes 0, if the amount falls with the move, that is, if its gain is Less than 0
 abbrev pub high_by : Ordering → Option Number → Number → Option Number
 high_by Less high e = lesser_end high e
 high_by Equal high e = high
@@ -81,24 +81,26 @@ abbrev pub high_end : Option Number → List Gain → Option Number
 high_end high [] = high
 high_end high (g ∷ gains) = high_end (high_with high g) gains
 
--- whether the quotient fits by which an amount limits the moves, by how its gain compares with 0;
--- an amount whose gain is Equal to 0 limits none
+-- whether the quotient of an amount by its gain, the negated move that makes the amount 0, stays
+-- within the limit on the size of numbers. The Ordering is how the gain compares with 0; if it is
+-- Equal, no quotient is required (true)
 abbrev pub end_fits : Ordering → ℕ → Gain → Bool
 end_fits Less limit g = quotient_fits limit g.amount g.each
 end_fits Equal limit g = true
 end_fits Greater limit g = quotient_fits limit g.amount g.each
 
--- whether the steps on an amount fit: the one that computes its gain, and the quotient if it limits
--- the moves
+-- whether the steps on an amount stay within the limit on the size of numbers: the one that
+-- computes its gain, and, unless the gain is 0, the quotient of the amount by its gain
 abbrev pub gain_fits : ℕ → Gain → Bool
 gain_fits limit g = g.fits && end_fits (number_cmp g.each (whole (pos 0))) limit g
 
--- whether the steps on each of these amounts fit
+-- whether the steps on each of these amounts stay within the limit on the size of numbers
 abbrev pub gains_fit : ℕ → List Gain → Bool
 gains_fit limit [] = true
 gains_fit limit (g ∷ gains) = gain_fits limit g && gains_fit limit gains
 
--- whether the sum of x and the least or greatest move e fits; true without such a move
+-- whether the computation of x plus the least or greatest move e stays within the limit on the size
+-- of numbers; true without such a move
 abbrev pub moved_fits : ℕ → Number → Option Number → Bool
 moved_fits limit x None = true
 moved_fits limit x (Some e) = sum_fits limit x e
@@ -107,8 +109,9 @@ moved_fits limit x (Some e) = sum_fits limit x e
 abbrev pub moved_to : Number → Option Number → Option Number
 moved_to x e = option_map (λ t. x +ℚ t) e
 
--- the values that x may take while these amounts remain at least 0, where moves below `low` and
--- above `high` are not allowed already; None if a step does not fit
+-- the values that x may take while these amounts, which change with it, remain at least 0, where
+-- moves below `low` and above `high` are excluded already (None: no move is); None if a step
+-- exceeds the limit on the size of numbers
 abbrev pub span_from : ℕ → Number → Option Number → Option Number → List Gain → Option Span
 span_from limit x low high gains =
     if gains_fit limit gains && moved_fits limit x (low_end low gains) && moved_fits limit x (high_end high gains) then
@@ -116,6 +119,6 @@ span_from limit x low high gains =
     None
 
 -- the values that x may take while these amounts, which change with it, remain at least 0; None if
--- a step does not fit
+-- a step exceeds the limit on the size of numbers
 abbrev pub span : ℕ → Number → List Gain → Option Span
 span limit x gains = span_from limit x None None gains

@@ -30,9 +30,15 @@ use std::alloc::{AllocError, Global};
 /// no entering variable would improve the objective: then some duals certify the levels of the
 /// answer for the moved cost. One number moves at a time.
 ///
-/// An interval is `None` exactly if one of its steps does not fit under the limit of the field. Its
-/// steps are, for each row or variable, the difference for an equation or a column without bounds
-/// and the quotient that gives an end, and then the two sums. The only error is out of memory.
+/// An interval is `None` exactly if one of its steps does not fit under the limit of the field. For
+/// a right side there are steps for each row of the final dictionary, for a cost for each nonbasic
+/// variable except variable 0. If the right side is that of an equation, the first step is the
+/// difference of the coefficients of its two slacks; if the column has no bounds, that of the
+/// changes of its two variables as the nonbasic one rises by 1. The next is the quotient at which
+/// the constant, or the variable's coefficient in the objective, becomes 0; there is none if it
+/// does not change. The last steps are the sums for the ends of the interval.
+///
+/// The only error is out of memory.
 pub fn ranges<F: ExactField>(
     alloc: Global,
     lp: &Lp<F>,

@@ -11,8 +11,9 @@ use Rattle.lp_core.specs.Pivots.{ByRule, Leads}
 abbrev pub ChoosesImproving : (Dictionary → List Pivot → Dictionary → ℕ → Type 0) → Type 0
 ChoosesImproving choice = (first : Dictionary) (pivots : List Pivot) (d : Dictionary) (q : ℕ) → choice first pivots d q → Improves d q
 
--- at each dictionary d to which legal pivots lead from one with the invariant of a program's, if
--- some variable improves, the choice allows a variable to enter
+-- the choice allows a variable to enter at each dictionary d at which some variable improves and to
+-- which legal pivots lead from a dictionary `first`; no pivot is before `first` (`[]`), and it has
+-- `IsProper`, the invariant of a program's dictionaries
 abbrev pub AlwaysChooses : (Dictionary → List Pivot → Dictionary → ℕ → Type 0) → Type 0
 AlwaysChooses choice =
     (first : Dictionary) (pivots : List Pivot) (d : Dictionary) → IsProper first → Leads (ByRule Legal) [] first pivots d → ((v : ℕ) × Improves d v) →

@@ -159,16 +159,17 @@ fn formless<F: ExactField>(alloc: Global, lp: &Lp<F>, stop: Stop) -> Result<End<
     }
 }
 
-/// An answer of a program, found by at most `iterlim` pivots. In each pivot `choice` picks the
-/// variable that enters, and of the variables that tie in the ratio test the one with the least
-/// number leaves: Chvatal, Linear Programming, chapters 2, 3 and 8. `choice` must not have seen any
-/// pivot.
+/// An answer of a program, found by at most `iterlim` pivots. In each pivot except the opening one,
+/// in which variable 0 enters, `choice` picks the variable that enters, and of the variables that
+/// tie in the ratio test the one with the least number leaves: Chvatal, Linear Programming,
+/// chapters 2, 3 and 8. The caller must ensure that `choice` remembers no pivot at the start.
 ///
 /// If the bounds of a column cross, the end is Infeasible with the first such column, and no step
-/// is made. If a step of the standard form does not fit under the field's limit, the end is Refused
-/// with the first such step. Otherwise pivots are made until none is required, `iterlim` pivots are
-/// made, or a step does not fit; the end is read from the final dictionary. The only error is out
-/// of memory.
+/// is made. If a step of the standard form computes a numerator or a denominator beyond the field's
+/// limit, the end is Refused with the first such step. Otherwise pivots are made until none is
+/// required: then the end, Optimal, Infeasible or Unbounded, is read from the final dictionary. If
+/// a pivot is required after `iterlim` pivots, the end is Interrupted. If a later step exceeds the
+/// limit, the end is Refused with the first such step. The only error is out of memory.
 pub fn solve_by<C: Choosing<F>, F: ExactField>(
     alloc: Global,
     lp: &Lp<F>,

@@ -15,8 +15,8 @@ use lp_dict::Dict;
 /// What is remembered of the pivots of a phase.
 ///
 /// The rule picks the entering variable until as many successive pivots were degenerate as there
-/// are variables. From then on, to the end of the phase, the least improving variable enters:
-/// Chvatal, Linear Programming, chapters 2 and 3.
+/// are variables. From then on, to the end of the phase, the improving variable with the least
+/// number enters: Chvatal, Linear Programming, chapters 2 and 3.
 #[derive(Clone, Copy)]
 pub(crate) enum Count {
     /// This many pivots were degenerate in succession, since the phase began or since a pivot that

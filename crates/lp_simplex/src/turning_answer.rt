@@ -16,15 +16,16 @@ use std::alloc::{AllocError, Global};
 /// An answer of a program by `rule` with a turn to Bland's rule, found by at most `iterlim` pivots:
 /// Chvatal, Linear Programming, chapters 2 and 3.
 ///
-/// A variable that `rule` picks enters, and of those that tie in the ratio test the one with the
-/// least number leaves. After as many successive degenerate pivots as there are variables, Bland's
-/// rule takes over to the end of the phase (the turn).
+/// In each pivot except the opening one, in which variable 0 enters, a variable that `rule` picks
+/// enters, and of those that tie in the ratio test the one with the least number leaves. After as
+/// many successive degenerate pivots of one phase as there are variables, slacks and variable 0
+/// included, Bland's rule takes over to the end of the phase (the turn).
 ///
 /// An answer whose end is Optimal, Infeasible or Unbounded has a certificate of this end.
 /// Interrupted is the end after exactly `iterlim` pivots if a further one is required. Refused has
-/// the first step that does not fit under the limit of the field. The turn bounds the number of
-/// pivots, and if `iterlim` is at least this bound, the end is not Interrupted. The only error is
-/// out of memory.
+/// the first step that computes a numerator or a denominator beyond the limit of the field. With n
+/// variables the answer has fewer than 2^n times 2(n + 1) pivots, and if `iterlim` is at least that
+/// number, the end is not Interrupted. The only error is out of memory.
 pub fn solve_with<P: Picking<F>, F: ExactField>(
     alloc: Global,
     lp: &Lp<F>,

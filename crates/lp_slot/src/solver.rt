@@ -15,7 +15,8 @@ use std::alloc::{AllocError, Global};
 /// answer of the solver has only pivots that its rule allows.
 #[derive(Clone, Copy)]
 pub enum SolverRule {
-    /// Bland's rule: the least improving variable enters, and the least tied one leaves.
+    /// Bland's rule: the improving variable with the least number enters, and of the tied ones that
+    /// with the least number leaves.
     Bland,
     /// The largest coefficient, with a turn to Bland's rule after as many successive degenerate
     /// pivots as there are variables.

@@ -7,12 +7,11 @@ use Rattle.std.proofs.lemmas.List.Sums.{sum_by-cons}
 use Rattle.std.proofs.lemmas.List.Elements.{All-nil, All-cons, All-head, All-tail, All-weaker}
 use Rattle.gq_number.specs.Number.{Number}
 use Rattle.lp_core.specs.Feasible.{bound_value}
-use Rattle.lp_core.specs.WellFormed.{IsWellFormed, variables_of_bounds, rows_of_bounds, rows_of_sense}
+use Rattle.lp_core.specs.WellFormed.{IsWellFormed, variables_of_bounds, rows_of_bounds}
 use Rattle.lp_core.specs.Steps.{count_of_rows}
 use Rattle.lp_core.specs.declared.program.Sense.{Sense}
 use Rattle.lp_core.specs.declared.program.Sense.TheVariants as sense
 use Rattle.lp_core.specs.declared.program.Column.{Column}
-use Rattle.lp_core.specs.declared.program.Row.{Row}
 use Rattle.lp_core.specs.declared.program.Lp.{Lp}
 use Rattle.lp_core.specs.StandardForm as form
 use Rattle.lp_std.specs.declared.types.Shift.{Shift}

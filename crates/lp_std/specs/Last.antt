@@ -10,11 +10,15 @@ use Rattle.lp_std.specs.Meaning.{standard_value}
 pub use Rattle.lp_core.specs.Dictionary.{HasZero, IsDictionaryOf}
 pub use Rattle.lp_core.specs.Ends.{IsReadAt}
 
--- the values, coefficients and ray of a final dictionary, each as the number that it means
+-- what is read from a final dictionary, each as the number that it means: the variables' values;
+-- their coefficients in the objective or, if the program is infeasible, in the row of variable 0;
+-- and their changes along a ray
 abbrev pub last_value : {F : Type 0} → (F → Number) → Final F → form.Last
 last_value value final = record { values = map value final.values; costs = map value final.costs; changes = map value final.ray }
 
 module _ {F : Type 0} (value : F → Number) where
-  -- `final` has what is read from some dictionary of this standard form at which a search may end
+  -- for some dictionary of the standard form s, a search in which each improving variable may enter
+  -- may end there with the kind that `final` has, and `final` has what is read from this
+  -- dictionary: the variables' values, coefficients and changes along a ray
   abbrev pub IsLast : Standard F → Final F → Type 0
   IsLast s final = (d : Dictionary) × IsDictionaryOf (standard_value value s) d × IsReadAt d final.kind (last_value value final)

@@ -14,13 +14,15 @@ use Rattle.lp_std.specs.declared.types.Standard.{Standard}
 use Rattle.lp_std.specs.declared.stop.Stop.{Stop}
 use Rattle.lp_std.specs.declared.stop.Stop.TheVariants as stop
 
--- a column's shift, its bound as the number that it means
+-- a column's shift, that is, how variables express the column, with its bound, if any, as the
+-- number that it means
 abbrev pub shift_value : {F : Type 0} → (F → Number) → Shift F → form.Shift
 shift_value value (shift.Lower b) = form.from_lower (value b)
 shift_value value (shift.Upper b) = form.from_upper (value b)
 shift_value value shift.Free = form.free
 
--- the origin of a row of the standard form, in the terms of the specification
+-- the origin of a row of the standard form, that is, the row or the column of the program from
+-- which it comes, in the terms of the specification
 abbrev pub origin_value : Origin → form.RowOrigin
 origin_value (origin.Row i) = form.of_row i
 origin_value (origin.Negated i) = form.of_negated i
@@ -46,8 +48,8 @@ standard_value value s =
     }
 
 -- Why a program has no standard form. Crossed: column j is the first whose lower bound is above its
--- upper bound. Limit: no column is such, and this step of the computation is the first whose result
--- does not fit. Memory makes no claim.
+-- upper bound. Limit: no column is such, and this step of the computation is the first that exceeds
+-- the limit on the size of numbers. Memory makes no claim.
 abbrev pub HasNoForm : {F : Type 0} → (F → Number) → ℕ → Lp F → Stop → Type 0
 HasNoForm value limit lp (stop.Limit step) = FirstCrossed value lp.columns None × FirstStop (standard_steps value limit lp) step
 HasNoForm value limit lp (stop.Crossed j) = FirstCrossed value lp.columns (Some j)

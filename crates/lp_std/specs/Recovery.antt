@@ -17,9 +17,9 @@ module _ {F : Type 0} (value : F → Number) (lp : Lp F) where
   IsFormOf s = FirstCrossed value lp.columns None × (standard_value value s ≡ form.standard_form value lp)
 
 module _ {F : Type 0} (value : F → Number) (limit : ℕ) (lp : Lp F) where
-  -- Why the recovery of the program's answer from `last`, for an end of the kind k, fails. Limit:
-  -- this step is the first whose result does not fit. Memory makes no claim. Crossed does not
-  -- occur.
+  -- Why the program's answer cannot be recovered from `last`, what is read from a final dictionary,
+  -- for an end of the kind k. Limit: this step of the recovery is the first that exceeds the limit
+  -- on the size of numbers. Memory makes no claim. Crossed does not occur.
   abbrev pub HasNoRecovery : EndKind → form.Last → Stop → Type 0
   HasNoRecovery k last (stop.Limit step) = FirstStop (steps_back value limit lp k last) step
   HasNoRecovery k last (stop.Crossed j) = ⊥

@@ -153,13 +153,14 @@ fn formed<F: ExactField>(alloc: Global, lp: &Lp<F>) -> Result<Standard<F>, Stop>
 }
 
 /// The standard form of a program, as in Chvatal, Linear Programming, chapter 1: variables that are
-/// at least 0 express each column, each row is at most its right side, and the objective is to be
-/// maximized.
+/// at least 0 express each column, each row is at most its right side, and the objective, negated
+/// when minimizing, is to be maximized.
 ///
 /// A column with a lower bound is that bound plus a variable; one with only an upper bound is that
 /// bound less a variable; one without bounds is the difference of two variables. A `=l=` row is
 /// kept, a `=g=` row is negated, an `=e=` row gives both, an `=n=` row gives none; after these,
-/// each column with two bounds gives a row. The bounds are subtracted from the right sides.
+/// each column with two bounds gives a row. The bounds, each times the column's coefficient, are
+/// subtracted from the right sides.
 ///
 /// The error `Crossed` has the first column whose lower bound exceeds its upper bound; this error
 /// comes before any other. `Limit` has the first step that does not fit under the limit of the

@@ -226,7 +226,9 @@ pub(crate) fn led_back<F: ExactField>(
 /// at `Unbounded` levels and a ray; at `Interrupted` the levels of phase 2. The dual of a row comes
 /// from the coefficients of the row's slacks. The reduced cost of a column comes from the
 /// coefficients of the column's variables and, if the column has two bounds, of the slack of the
-/// row for them. When minimizing, duals and reduced costs are negated.
+/// row for them. When minimizing, duals and reduced costs are negated. What the end has proves it
+/// from the program's rows and bounds; for `Interrupted` this means only that the levels are
+/// feasible.
 ///
 /// The error `Limit` has the first step that does not fit under the limit of the field, in the
 /// order levels, row levels, duals, reduced costs, ray. `Memory` means out of memory, and `Crossed`

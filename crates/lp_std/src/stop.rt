@@ -1,4 +1,5 @@
-//! Why a program has no standard form, or a final dictionary no recovery.
+//! Why a program has no standard form, why a ratio test or a pivot has no result, or why the final
+//! dictionary gives no end of the search in terms of the program's rows and columns (`recover`).
 ghost use Rattle.std.specs.Prelude.{◌≡◌};
 ghost use Rattle.lp_std.specs.declared.stop.Stop.TheVariants.{Limit, Memory};
 
@@ -6,7 +7,8 @@ use lp_core::StepName;
 use std::alloc::{AllocError, AllocFailed};
 use thiserror::Error;
 
-/// Why a program has no standard form, or a final dictionary no recovery.
+/// Why a program has no standard form, why a ratio test or a pivot has no result, or why the final
+/// dictionary gives no end of the search in terms of the program's rows and columns (`recover`).
 #[derive(Clone, Copy, Debug, Error)]
 pub enum Stop {
     /// The first step whose result exceeds the field's limit.

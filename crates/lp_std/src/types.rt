@@ -84,15 +84,17 @@ impl<F: Drop> Drop for Standard<F> {
 pub struct Final<F> {
     /// How the search for an answer of the program ended.
     pub kind: EndKind,
-    /// The value of each variable at the dictionary's point, in the order of the variables' numbers
-    /// from 0.
+    /// The value of each variable at the point of the final dictionary, in the order of the
+    /// variables' numbers from 0.
     pub values: Sequence<F>,
-    /// The coefficient of each variable, in the order of the variables' numbers from 0: its
-    /// coefficient in the row of variable 0 if the search ended as `Infeasible`, else that in the
+    /// The coefficient of each variable in the final dictionary, in the order of the variables'
+    /// numbers from 0; 0 for a basic variable, also for variable 0. If the search ended as
+    /// `Infeasible`, it is the coefficient in the row of variable 0, which states that variable 0
+    /// plus the sum of the other terms equals the constant; else it is the coefficient in the
     /// objective.
     pub costs: Sequence<F>,
-    /// The change of each variable along the ray, in the order of the variables' numbers from 0, if
-    /// the search ended as `Unbounded`; else an empty list.
+    /// The change of each variable along the ray, as the entering variable rises by 1, in the order
+    /// of the variables' numbers from 0, if the search ended as `Unbounded`; else an empty list.
     pub ray: Sequence<F>,
 }
 
