@@ -25,14 +25,16 @@ abbrev pub given_words : Result (IntoIter (String Global) Global) Error → List
 given_words (Ok args) = drop 1 (into_iter_items args)
 given_words (Err error) = []
 
--- the words are the arguments of a run: all after the program's name; none if one of them is not
--- UTF-8
+-- the words are the arguments of a run: all after the program's name, or none if these cannot be
+-- read because one of them is not UTF-8 (the error `InvalidData`)
 abbrev pub HasWords : Result (IntoIter (String Global) Global) Error → List (String Global) → Type 0
 HasWords (Ok args) words = words ≡ drop 1 (into_iter_items args)
 HasWords (Err error) words = (error_kind error ≡ InvalidData) × (words ≡ [])
 
--- the solvers that the program gives to a run before any answer, with their rules: Bland's rule,
--- the largest coefficient, improving variables with a turn to Bland's rule, and any legal pivots
+-- the solvers that the program gives to a run, with their rules: Bland's rule; the largest
+-- coefficient, or any improving variable (`Turning`), until the search turns to Bland's rule after
+-- successive degenerate pivots; and any legal pivots. `paths` has for each solver the pivots of
+-- each answer that it has given: none yet
 abbrev pub lent : Solvers
 lent =
     record {
@@ -42,11 +44,14 @@ lent =
     }
 
 -- A run of these arguments with the solvers `lent` ends with this status; the host is in the state
--- `old` before it and `new` after it. The run did what this status says (`run`), and its answers
--- are right (`answers`). For a FILE alone, a status with a listing means that the whole listing was
--- written (`headline`). If the arguments request an input that the host has, and no fault of the
--- host was met, then the status is Compile exactly if the input cannot be run (`compile`), and
--- Execution exactly if an execution error stopped its run (`execution`).
+-- `old` before it and `new` after it. `solving` has the solvers before the run, which are `lent`
+-- (`lends`), the solvers after it, and their answers to its linear programs. The run did what this
+-- status says (`run`), and each of these answers is right if the input was executed (`answers`).
+-- For a request of a FILE and no option but an output name, the status Done, Compile or Execution
+-- means that the whole listing was written (`headline`). If the arguments request an input that the
+-- host has, and no fault of the host was met, then the status is Compile exactly if the input
+-- cannot be run (`compile`), and Execution exactly if an execution error stopped its run
+-- (`execution`).
 pub record RunsWith (status : Status) (words : List (List ℕ)) (old new : Meaning) : Type 0 where
   pub solving : Solving
   pub lends : solving.before ≡ lent
@@ -59,14 +64,19 @@ pub record RunsWith (status : Status) (words : List (List ℕ)) (old new : Meani
   pub execution : (source : NamesSource old.outside words) → MeetsNoFault old.counts new.counts →
       (status ≡ Execution) ↔ IsStopped solving source.taken
 
--- a run of the arguments that the process gives ends with this status
+-- a run of the process's arguments ends with this status; the host is in the state `old` before it
+-- and `new` after it
 abbrev pub RunsGiven : Status → Result (IntoIter (String Global) Global) Error → Meaning → Meaning → Type 0
 RunsGiven status args old new = (words : List (String Global)) × (HasWords args words × RunsWith status (texts words) old new)
 
--- A run of the process's arguments ends with this status. The counts of faults agree with it
--- (`counts`), and it is no fault of the host if the host is ready for the request (`no_fault`). It
--- is Usage exactly if the arguments are no request (`usage`). If the requested input can be run,
--- and no fault of the host was met, it is Done or Execution (`complete`).
+-- A run of the process's arguments ends with this status; the host is in the state `old` before it
+-- and `new` after it. The host's counts of faults change as the status says (`counts`): that of
+-- reading rises with ReadFault, that of writing with WriteFault, and with Done, Compile and
+-- Execution neither changes if the host is precise (it counts a fault only in a call that answers
+-- with one). If the host is reliable and has the requested files, as far as it exposes its files,
+-- the status is no fault of the host (`no_fault`). The status is Usage exactly if the arguments are
+-- no request (`usage`). If the requested input can be run, and no fault of the host was met, the
+-- status is Done or Execution (`complete`).
 pub record EndsGiven (status : Status) (args : Result (IntoIter (String Global) Global) Error) (old new : Meaning) : Type 0 where
   pub run : RunsGiven status args old new
   pub counts : CountsSo status old.counts new.counts
@@ -80,6 +90,6 @@ exit_of (Ok status) = status_code status
 exit_of (Err e) = 6
 
 -- the process exits with `code`: the status of a run of its arguments, or 6 if that ran out of
--- memory
+-- memory; the host is in the state `old` before the run and `new` after it
 abbrev pub ExitsSo : ℕ → Result (IntoIter (String Global) Global) Error → Meaning → Meaning → Type 0
 ExitsSo code args old new = (ended : Result Status AllocError) × ((code ≡ exit_of ended) × IfOk ended (λ status. EndsGiven status args old new))

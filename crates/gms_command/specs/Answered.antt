@@ -8,7 +8,9 @@ use Rattle.lp_core.specs.Answers.{IsAnswer}
 use Rattle.lp_core.specs.WellFormed.{IsWellFormed}
 
 module _ {F : Type 0} (value : F → Number) (limit : ℕ) where
-  -- A well-formed program, and an answer of it under some limit of pivots and some rule.
+  -- The linear program `lp` is well-formed, and `answer` is an answer of it under some limit of
+  -- the number of pivots, `iterlim`, and some pivot rule. `value` gives the number that a value of
+  -- `F` means, and `limit` is the limit of the size of numbers.
   pub record IsSomeAnswer (lp : Lp F) (answer : Answer F) : Type 0 where
     pub formed : IsWellFormed value lp
     pub iterlim : ℕ

@@ -21,11 +21,11 @@ texts words = map string_bytes words
 
 -- ---- the command
 
--- the rule of an option `--name` with one value
+-- the rule by which the command accepts an option `--name` with one value
 abbrev pub option : List ℕ → Rule
 option name = record (new_rule name) { long = Some name }
 
--- the rule of a flag `--name` without a value
+-- the rule by which the command accepts a flag `--name` without a value
 abbrev pub flag : List ℕ → Rule
 flag name = record (new_rule name) { long = Some name; action = Some SetTrue }
 
@@ -79,22 +79,24 @@ abbrev pub output_name : List ℕ → List ℕ
 output_name file =
     if bytes_eq (drop (length file - 4) file) (codes ".gms") then take (length file - 4) file ++ codes ".lst" else file ++ codes ".lst"
 
--- the name of the output if `--out` is not given, by the source
+-- the name of the output if `--out` is not given: for a file the one that results from the name of
+-- the file (`output_name`), for a generated model `generate.lst`
 abbrev pub own_output : Origin → List ℕ
 own_output (in_file file) = output_name file
 own_output (restarted saved file) = output_name file
 own_output (generated size) = codes "generate.lst"
 
 -- What accepted arguments request: a source, the name of the output, the name of the file in which
--- the last state is saved, if any, and whether ranges are printed.
+-- the last state is saved, if any, and whether sensitivity ranges of the solves are printed
+-- (`ranges`).
 pub record Asked : Type 0 where
   pub source : Origin
   pub output : List ℕ
   pub save : Option (List ℕ)
   pub ranges : Bool
 
--- the request with this source; the output has the name that `--out` gives it, or else the one that
--- results from the source
+-- the request with this source, this flag `ranges` and this name of a file to save in; the output
+-- has the name `out` that `--out` gives it, or else the one that results from the source
 abbrev pub asked : Bool → Option (List ℕ) → Option (List ℕ) → Origin → Asked
 asked ranges save out source =
     record { source = source; output = unwrap_or out (own_output source); save = save; ranges = ranges }
@@ -103,27 +105,29 @@ asked ranges save out source =
 abbrev pub is_flag_given : Option (List ℕ) → Bool
 is_flag_given value = option_map_or (λ text. bytes_eq text (codes "true")) value false
 
--- the request of the names and values that the command finds in the arguments; None if they do not
--- name exactly one source
+-- the request of the names and values that the command finds in the arguments; None if FILE,
+-- `--generate` and `--restart` give no source (`origin_of`)
 abbrev pub request_in : List Row → Option Asked
 request_in rows =
     option_map (asked (is_flag_given (first_of (codes "ranges") rows)) (first_of (codes "save") rows) (first_of (codes "out") rows)) (origin_of (first_of (codes "file") rows) (first_of (codes "generate") rows) (first_of (codes "restart") rows))
 
 -- what the arguments request; None, that is, they are refused, if the command does not accept them,
--- they do not name exactly one source, or a generated model is to resume from a saved state
+-- they do not name exactly one source, the value of `--generate` is no size, or both `--generate`
+-- and `--restart` are given
 abbrev pub request_of : List (List ℕ) → Option Asked
 request_of words = option_and_then request_in (rows_taken words)
 
 -- ---- what the program requests
 
--- the view of a source of a request: where it comes from
+-- the view of a source of a request: the name of the file to run; the name of the file with a saved
+-- state and that of the file that resumes from it; or the size of the generated model
 abbrev pub origin : Source → Origin
 origin (File name) = in_file name.now
 origin (Restart saved file) = restarted saved.now file.now
 origin (Generate size) = generated size
 
--- the view of a request: its source, the name of its output, the file in which to save, if any, and
--- whether ranges are printed
+-- the view of a request: its source; the name of its output, which results from the source if
+-- `--out` is not given; the file in which to save, if any; and whether ranges are printed
 abbrev pub asked_by : Request → Asked
 asked_by request =
     asked request.ranges (option_map (λ name. name.now) request.save) (option_map (λ name. name.now) request.out) (origin request.source)
@@ -144,7 +148,8 @@ abbrev pub generated_line : ℕ → ℕ → List ℕ → ℕ → List ℕ
 generated_line size model_status objective pivots =
     printed_line (codes "generated " ++ decimal size ++ codes " by " ++ decimal size ++ codes ", model status " ++ decimal model_status ++ codes ", objective " ++ objective ++ codes ", pivots " ++ decimal pivots)
 
--- the line that is printed at the end: the status, the number of solves, and the name of the output
+-- the line that is printed at the end: the number of the status with which the run ends, the number
+-- of its solves, and the name of the output file
 abbrev pub closing_line : ℕ → ℕ → List ℕ → List ℕ
 closing_line status solves output =
     printed_line (codes "status " ++ decimal status ++ codes ", solves " ++ decimal solves ++ codes ", output " ++ output)
@@ -153,13 +158,15 @@ closing_line status solves output =
 abbrev pub ranges_line : ℕ → List ℕ
 ranges_line solve = printed_line (codes "ranges of solve " ++ decimal solve)
 
--- the line of a range: `what` is `right` for a right side or `cost` for a cost, followed by the
--- element and the texts of the range's ends, or `-INF` and `+INF` without them
+-- the line of a range: `what`, which is `right` for a row's right side or `cost` for a column's
+-- cost; `element`, the text of the row or column, such as `x(seattle,chicago)`; and the texts of
+-- the range's ends, with `-INF` for a missing lower end and `+INF` for a missing upper end
 abbrev pub range_line : List ℕ → List ℕ → Option (List ℕ) → Option (List ℕ) → List ℕ
 range_line what element low high =
     printed_line (codes "  " ++ what ++ codes " " ++ element ++ codes " from " ++ unwrap_or low (codes "-INF") ++ codes " to " ++ unwrap_or high (codes "+INF"))
 
--- the line of a range that could not be computed, as a step exceeds the limit: `what` is `right`
--- for a right side or `cost` for a cost, followed by the element
+-- the line of a range that is not computed, as a number in its computation exceeds the limit on the
+-- size of numbers: `what`, which is `right` for a row's right side or `cost` for a column's cost,
+-- and `element`, the text of the row or column
 abbrev pub not_shown_line : List ℕ → List ℕ → List ℕ
 not_shown_line what element = printed_line (codes "  " ++ what ++ codes " " ++ element ++ codes " not shown")

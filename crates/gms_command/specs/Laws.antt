@@ -81,7 +81,8 @@ value_of_option name parts = option_map part_value (find (λ part. bytes_eq (par
 
 -- what the parts request: the source of FILE, `--restart` and `--generate`; the output of `--out`,
 -- or else the one named after the source; the file of `--save`; and ranges, if `--ranges` is given.
--- None if they do not name exactly one source.
+-- None unless exactly one of FILE and `--generate` occurs, and `--generate` has a size from 1 to 30
+-- and no `--restart` beside it.
 abbrev pub requested : List Argument → Option Asked
 requested parts =
     option_map (asked (has_part (codes "ranges") parts) (value_of_option (codes "save") parts) (value_of_option (codes "out") parts)) (origin_of (value_of_option (codes "file") parts) (value_of_option (codes "generate") parts) (value_of_option (codes "restart") parts))
@@ -98,7 +99,8 @@ IsByParts = (parts : List Argument) → are_plain parts ≡ true → request_of 
 abbrev pub request_of_file : List ℕ → Asked
 request_of_file file = record { source = in_file file; output = output_name file; save = None; ranges = false }
 
--- what `--generate` alone requests: to run the generated model of this size
+-- what `--generate` alone requests: to run the generated model of this size, with the output
+-- `generate.lst`; nothing is saved, and no ranges are printed
 abbrev pub run_of_model : ℕ → Asked
 run_of_model size = record { source = generated size; output = codes "generate.lst"; save = None; ranges = false }
 
@@ -137,11 +139,12 @@ HasSize = (words : List (List ℕ)) (request : Asked) (size : ℕ) → request_o
 abbrev pub IsRefusedEmpty : Type 0
 IsRefusedEmpty = request_of [] ≡ None
 
--- `--generate` with a FILE is refused, and so is `--generate` with `--restart`
+-- `--generate N FILE` and `--generate N --restart SAVED` are refused; no name and no N begins with
+-- `-`
 abbrev pub IsRefusedBesideGenerate : Type 0
 IsRefusedBesideGenerate = (text other : List ℕ) → is_no_option text ≡ true → is_no_option other ≡ true → (request_of (codes "--generate" ∷ text ∷ other ∷ []) ≡ None) × (request_of (codes "--generate" ∷ text ∷ codes "--restart" ∷ other ∷ []) ≡ None)
 
 -- two FILEs, or an option or flag given twice, are refused, with any parts before, between and
--- after them
+-- after them; no file's name and no option's value begins with `-`
 abbrev pub IsRefusedTwice : Type 0
 IsRefusedTwice = (before between after : List Argument) (one other : Argument) → part_name one ≡ part_name other → are_plain (before ++ one ∷ (between ++ other ∷ after)) ≡ true → request_of (all_words (before ++ one ∷ (between ++ other ∷ after))) ≡ None

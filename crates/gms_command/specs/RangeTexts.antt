@@ -45,33 +45,37 @@ module _ (names labels : List (List ℕ)) where
   abbrev pub cost_line : Column Number → Option Span → List ℕ
   cost_line column span = span_line (codes "cost") (range_key_text column.key) span
 
-  -- the lines of the rows' right sides, where the list has the range of each row
+  -- the lines of the rows' right sides, where `spans` has the range of each row
   abbrev pub right_lines : List (Row Number) → List (Option Span) → List ℕ
   right_lines rows spans = flat_map (λ (p : ℕ × Row Number). right_line p.1 (span_at spans p.0)) (enumerate_from 0 rows)
 
-  -- the lines of the columns' costs, where the list has the range of each column
+  -- the lines of the columns' costs, where `spans` has the range of each column
   abbrev pub cost_lines : List (Column Number) → List (Option Span) → List ℕ
   cost_lines columns spans = flat_map (λ (p : ℕ × Column Number). cost_line p.1 (span_at spans p.0)) (enumerate_from 0 columns)
 
   -- the ranges printed for a solve whose answer is Optimal: a line with the solve's number, then
-  -- those of the right sides and of the costs
+  -- the lines of the right sides, with the ranges `right_spans`, and of the costs, with the ranges
+  -- `cost_spans`
   abbrev pub spans_text : ℕ → Lp Number → List (Option Span) → List (Option Span) → List ℕ
   spans_text solve lp right_spans cost_spans = ranges_line solve ++ right_lines lp.rows right_spans ++ cost_lines lp.columns cost_spans
 
   module _ (limit : ℕ) where
-    -- the text is what is printed for a solve that ends so after these pivots: for an optimum the
-    -- ranges at the final dictionary, for any other end nothing
+    -- the text is what is printed for the solve with the number `solve`, of the linear program
+    -- `lp`, whose answer has these pivots and this end. If the end is Optimal, the text has the
+    -- ranges of the right sides and of the costs at the dictionary `last`, to which the pivots lead
+    -- from the first dictionary; for any other end it is empty. `limit` bounds the size of numbers
     abbrev pub SaysEnd : ℕ → Lp Number → List Pivot → End Number → List ℕ → Type 0
     SaysEnd solve lp pivots (Optimal levels row_levels duals reduced) text =
         (last : Dictionary) × LeadTo itself limit lp pivots last × (text ≡ spans_text solve lp (rights itself limit lp last) (costs itself limit lp last))
     SaysEnd solve lp pivots end text = text ≡ []
 
-    -- the text is what is printed for the answer of a solve, whose linear program is `lp`
+    -- the text is what is printed for the answer of the solve with the number `solve`, whose linear
+    -- program is `lp`
     abbrev pub SaysAnswer : ℕ → Lp Number → Answer Number → List ℕ → Type 0
     SaysAnswer solve lp answer text = SaysEnd solve lp answer.pivots answer.end text
 
     -- the text is what is printed for solves in order, by their programs and answers; `solve` is
-    -- the number of the first
+    -- the number of the first. Nothing is printed past the end of either list
     abbrev pub SaysRanges : ℕ → List (Lp Number) → List (Answer Number) → List ℕ → Type 0
     SaysRanges solve (lp ∷ programs) (answer ∷ answers) text =
         (first rest : List ℕ) × SaysAnswer solve lp answer first × SaysRanges (solve + 1) programs answers rest × (text ≡ first ++ rest)

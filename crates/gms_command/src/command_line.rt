@@ -40,12 +40,14 @@ pub struct Request<'a> {
     /// Where the source of the run comes from: a file, a file that resumes from a saved state, or a
     /// generated model.
     pub source: Source<'a>,
-    /// The value of `--out`, the name of the output; `None` if the arguments have no `--out`.
+    /// The value of `--out`, the name of the file to which the listing is written; `None` if the
+    /// arguments have no `--out`.
     pub out: Option<&'a str>,
     /// The value of `--save`, the name of the file in which the last state of the run is saved;
     /// `None` if the arguments have no `--save`.
     pub save: Option<&'a str>,
-    /// Whether the arguments have `--ranges`, which requests the ranges of each optimum.
+    /// Whether the arguments have `--ranges`, which requests the ranges of the right sides and the
+    /// costs at each optimum.
     pub ranges: bool,
 }
 
@@ -186,8 +188,8 @@ fn request_of_file<'a>(words: &'a [String]) -> Option<Request<'a>>
 
 /// What the arguments `words` request. `None` means that the arguments are refused: the command
 /// does not accept them, they do not name exactly one source, the value of `--generate` is no
-/// number from 1 to 30 in plain digits, or both `--generate` and `--restart` are given. The error
-/// is out of memory.
+/// number from 1 to 30 in decimal digits without a sign or a leading zero, or both `--generate` and
+/// `--restart` are given. The error is out of memory.
 pub fn request_of<'a>(alloc: Global, words: &'a [String]) -> Result<Option<Request<'a>>, AllocError>
     ensures { IfOk result (λ request. option_map asked_by request ≡ request_of (texts words.now)) }
 {
@@ -200,8 +202,8 @@ pub fn request_of<'a>(alloc: Global, words: &'a [String]) -> Result<Option<Reque
     }
 }
 
-/// The name of the output after a file: FILE with a last `.gms` replaced by `.lst`, or with `.lst`
-/// added.
+/// The name of the listing's file after that of FILE: with a last `.gms` replaced by `.lst`, or
+/// else with `.lst` added.
 fn output_name(alloc: Global, file: &str) -> Result<String, AllocError>
     ensures { IfOk result (λ name. string_bytes name ≡ output_name file.now) }
 {
@@ -211,9 +213,9 @@ fn output_name(alloc: Global, file: &str) -> Result<String, AllocError>
     }
 }
 
-/// The name of the output: the value of `--out`, if that is given. Otherwise it is `generate.lst`
-/// for a generated model, and in any other case the name of the FILE with `.lst` in place of a last
-/// `.gms`, or else with `.lst` added. The error is out of memory.
+/// The name of the file to which the listing is written: the value of `--out`, if that is given.
+/// Otherwise it is `generate.lst` for a generated model, and in any other case the name of the FILE
+/// with `.lst` in place of a last `.gms`, or else with `.lst` added. The error is out of memory.
 pub fn output_of(alloc: Global, request: Request) -> Result<String, AllocError>
     ensures { IfOk result (λ name. string_bytes name ≡ (asked_by request.entry).output) }
 {
@@ -240,9 +242,9 @@ pub fn read_fault_line(alloc: Global, file: &str) -> Result<String, AllocError>
     format!(in alloc; "cannot read {file}\n")
 }
 
-/// The line that is printed after a generated model is solved. It has the size of the model, the
-/// number of its model status, the text `objective` of the objective's level, and the number of
-/// pivots. The error is out of memory.
+/// The line that is printed after a generated model is solved. It has the size of the model, which
+/// is its number of plants and of markets, the number of its model status, the text `objective` of
+/// the objective's level, and the number of pivots. The error is out of memory.
 pub fn generated_line(
     alloc: Global,
     size: u32,
@@ -257,9 +259,9 @@ pub fn generated_line(
     )
 }
 
-/// The line that is printed at the end, after the listing is written to the output. It has the
-/// number of the status of the run, the number of solves, and the name of the output. The error is
-/// out of memory.
+/// The line that is printed at the end, after the listing is written to the file named `output`. It
+/// has the exit status of the run, `status`, the number of solves, and this name. The error is out
+/// of memory.
 pub fn closing_line(
     alloc: Global,
     status: u8,
@@ -271,8 +273,8 @@ pub fn closing_line(
     format!(in alloc; "status {status}, solves {solves}, output {output}\n")
 }
 
-/// The line that is printed before the ranges of a solve. `solve` is the number of the solve, from
-/// 1. The error is out of memory.
+/// The line that is printed before the ranges of right sides and costs of a solve. `solve` is the
+/// number of the solve, from 1. The error is out of memory.
 pub fn ranges_line(alloc: Global, solve: usize) -> Result<String, AllocError>
     ensures { IfOk result (λ line. string_bytes line ≡ ranges_line solve) }
 {
@@ -299,8 +301,9 @@ pub fn range_line(
 }
 
 /// The line that is printed for a range that is not computed, since a step of the computation
-/// exceeds the limit of the field. `what` is `right` for a range of a right side, and `cost` for a
-/// range of a cost; `element` is the text of the row or column. The error is out of memory.
+/// exceeds the field's limit on the size of numbers. `what` is `right` for a range of a right side,
+/// and `cost` for a range of a cost; `element` is the text of the row or column. The error is out
+/// of memory.
 pub fn not_shown_line(alloc: Global, what: &str, element: &str) -> Result<String, AllocError>
     ensures { IfOk result (λ line. string_bytes line ≡ not_shown_line what.now element.now) }
 {

@@ -65,15 +65,17 @@ fn push_answer<F: ExactField>(
 }
 
 /// The text of the ranges that are printed for the solves of a run. `solved` has the linear program
-/// of each solve and `answers` has the answer, both in the order of the solves. `names` and
-/// `labels` are the tables of the program that is run.
+/// of each solve and `answers` has the answer, both in the order of the solves. The caller must
+/// prove that each linear program is well-formed, and that its answer is one under some `iterlim`
+/// and some pivot rule. `names` and `labels` are the tables of the program that is run.
 ///
 /// The text has, for each answer that is an optimum, a line with the number of the solve, from 1.
 /// One line for the right side of each row, except nonbinding rows (`=n=`), and one for the cost of
 /// each column follow. A right side's range has its values for which the basis of the final
 /// dictionary remains feasible. A cost's range has its values for which this basis remains optimal.
-/// All other numbers stay the same (Chvatal, Linear Programming, chapter 10). The error is out of
-/// memory.
+/// All other numbers stay the same (Chvatal, Linear Programming, chapter 10). A range whose
+/// computation exceeds the field's limit on the size of numbers has the line of `not_shown_line`.
+/// The error is out of memory.
 pub fn ranges_text<F: ExactField>(
     alloc: Global,
     names: &Labels,

@@ -1,6 +1,6 @@
 -- Operands that `and` and `or` do not evaluate, and steps that return a fault as it is.
 use Rattle.std.proofs.lemmas.Bool.{not-false, not-true}
-use Rattle.std.proofs.Common.{◌≡◌, ℕ, ◌+◌, ◌<◌, Bool, true, false, not, List, drop, get_or, length, Option, Some, None, Ok, Err, if◌then◌else◌, refl, sym, ap, ◌∙◌}
+use Rattle.std.proofs.Common.{◌≡◌, ℕ, ◌+◌, ◌<◌, Bool, true, false, List, drop, get_or, length, Option, Some, None, Ok, Err, if◌then◌else◌, refl, sym, ap, ◌∙◌}
 use Rattle.gms_labels.specs.declared.place.Place.{Place}
 use Rattle.gq_extended.specs.Extended.{Extended}
 use Rattle.gms_ast.specs.Trees as tree

@@ -11,7 +11,7 @@ abbrev pub label_of : Pairs → ℕ → Option ℕ
 label_of [] set = None
 label_of (pair ∷ pairs) set = if pair.0 == set then Some pair.1 else label_of pairs set
 
--- each set with the label at its position in an element
+-- each of the sets with the label at its position in an element, up to the end of the shorter list
 abbrev pub paired : List ℕ → List ℕ → Pairs
 paired (set ∷ sets) (label ∷ labels) = (set, label) ∷ paired sets labels
 paired sets labels = []

@@ -17,7 +17,8 @@ use Rattle.gms_eval.specs.declared.stop.StopKind.TheVariants.{DomainSize}
 abbrev pub labels_of : State → ℕ → List ℕ
 labels_of state set = map label_of_element (members_of state set)
 
--- each member of the set has one label, and the members are in order
+-- each member of the set has one label, and the members are distinct and in ascending order of
+-- their labels
 abbrev pub IsSimple : State → ℕ → Type 0
 IsSimple state set =
     IsOrdered (members_of state set) × ((member : List ℕ) → has (members_of state set) member ≡ true → length member ≡ 1)
@@ -35,12 +36,13 @@ most_elements = 16777216
 abbrev pub most_counted : ℕ
 most_counted = 18446744073709551615
 
--- the fault of a domain whose product has `count` elements; it reports at most the greatest `u64`
+-- the fault DomainSize, at a place and under a binding, of a domain whose product has `count`
+-- elements; it reports at most the greatest `u64`
 abbrev pub too_large : Place → Pairs → ℕ → Fault
 too_large at binding count =
     record { kind = DomainSize; at = at; binding = binding; left = nothing; right = nothing; count = min count most_counted }
 
--- the elements of a product, or the fault DomainSize if they are more than is allowed
+-- the elements `those` of a product; the fault DomainSize if there are more than `most_elements`
 abbrev pub sized : Place → Pairs → List (List ℕ) → Answer (List (List ℕ))
 sized at binding those = if nat_lt most_elements (length those) then Err (too_large at binding (length those)) else Ok those
 

@@ -50,8 +50,8 @@ kind_of_step step.Exponent = Exponent
 -- ---- faults
 
 -- A fault of an operation: its kind, its place in the source, the labels that the controlled sets
--- have there, the operands (0 if it has none), and the number of elements if the kind is
--- DomainSize, otherwise 0.
+-- have there, the operands (0 for a missing one), and the count: the number of elements, rows or
+-- columns if the kind is DomainSize, TooManyRows or TooManyColumns, otherwise 0.
 pub record Fault : Type 0 where
   pub kind : StopKind
   pub at : Place
@@ -64,7 +64,8 @@ pub record Fault : Type 0 where
 abbrev pub nothing : Extended
 nothing = number (whole (pos 0))
 
--- the fault of an operation on these operands
+-- the fault of this kind, at a place and under a binding, of an operation on these operands; its
+-- count is 0
 abbrev pub faulted : StopKind → Place → Pairs → Extended → Extended → Fault
 faulted kind at binding left right =
     record { kind = kind; at = at; binding = binding; left = left; right = right; count = 0 }

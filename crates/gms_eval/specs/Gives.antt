@@ -9,12 +9,13 @@ use Rattle.gms_eval.specs.declared.stop.ExecStopOrMemory.TheVariants.{Memory, Fa
 use Rattle.gms_eval.specs.Faults.{Fault, Answer}
 
 module _ {F : Type 0} (number_of : F → Number) where
-  -- the fault that a stop of the code stands for, with the numbers that its operands mean
+  -- the fault that `stop`, an error of a Rust function, stands for; `number_of` gives the numbers
+  -- that its operands mean
   abbrev pub fault_of_stop : ExecStop F → Fault
   fault_of_stop stop =
       record { kind = stop.kind; at = stop.at; binding = stop.binding; left = extended number_of stop.left; right = extended number_of stop.right; count = stop.count }
 
-  -- the fault that a stop in a box stands for
+  -- the fault that a boxed error of a Rust function stands for
   abbrev pub fault_of : Box (ExecStop F) Global → Fault
   fault_of stop = fault_of_stop stop.value
 

@@ -7,7 +7,7 @@ use Rattle.gms_ast.specs.declared.expression.LagOp.{LagOp}
 use Rattle.gms_ast.specs.declared.expression.LagOp.TheVariants.{Lead, Lag, CircularLead, CircularLag}
 use Rattle.gms_tuple.specs.TupleSet.{place_of_tuple}
 
--- the label of an element of a one-dimensional set
+-- the label of an element of a one-dimensional set, its first; 0 if it has none
 abbrev pub label_of_element : List ℕ → ℕ
 label_of_element element = unwrap_or (slice_get element 0) 0
 
@@ -16,7 +16,7 @@ abbrev pub label_at : List (List ℕ) → ℤ → Option ℕ
 label_at members (pos place) = option_map label_of_element (slice_get members place)
 label_at members (negsuc n) = None
 
--- an index modulo the number of members
+-- the index `place` modulo the number of members
 abbrev pub around : List (List ℕ) → ℤ → ℤ
 around members place = int_rem_euclid place (pos (length members))
 
@@ -29,8 +29,8 @@ moved members Lag amount place = label_at members (place +ℤ neg_ℤ amount)
 moved members CircularLead amount place = label_at members (around members (place +ℤ amount))
 moved members CircularLag amount place = label_at members (around members (place +ℤ neg_ℤ amount))
 
--- the label that a lead or a lag of `amount` members reaches from a label; None beyond the end of
--- the set, and from a label that the set lacks
+-- the label that a lead or a lag of `amount` members reaches from a label (`moved`); None from a
+-- label that the set lacks and, if `op` is not circular, beyond an end of the set
 abbrev pub lagged_label : List (List ℕ) → LagOp → ℤ → ℕ → Option ℕ
 lagged_label members op amount label =
     option_and_then (λ place. moved members op amount (pos place)) (place_of_tuple members (label ∷ []))

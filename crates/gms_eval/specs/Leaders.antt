@@ -60,8 +60,9 @@ module _ {F : Type 0} where
       -- The reference to `name` with `indices` may lead for the condition: the elements for which
       -- the condition holds are searched among the stored tuples of the reference, and not in the
       -- whole product of sets. The reference has neither a suffix nor a lag and at most 10 indices.
-      -- It is the condition, or a factor of it, and the factors that are evaluated before it never
-      -- have a fault. Guards are evaluated before their operand, from the last to the first.
+      -- It is the condition, or occurs in it as an operand of `and`, as a guard or as a guarded
+      -- operand, at any depth, and all operands and guards that are evaluated before it never have
+      -- a fault. Guards are evaluated before their operand, from the last to the first.
       pub MayLead : tree.Tree F → Type 0
       MayLead (tree.reference at other suffix those) =
           (is_bare suffix those ≡ true) × (number_of_indices those ≤ 10) × (other ≡ name) × (those ≡ indices)
@@ -76,15 +77,16 @@ module _ {F : Type 0} where
       OneMayLead tree.no_part = ⊥
       OneMayLead (tree.part mark condition rest) = MayLead condition ⊎ ((never_fails condition ≡ true) × OneMayLead rest)
 
-      -- the reference to `name` with `indices` may lead for guards, which are evaluated from the
-      -- last to the first: it may lead for one of them (`MayLead`), and those after it never have a
-      -- fault
+      -- the reference to `name` with `indices` may lead for guards, so that a search may pass over
+      -- the elements at which it is 0: it may lead for one of them (`MayLead`), and those after it
+      -- never have a fault. Guards are evaluated from the last to the first
       pub LastMayLead : tree.Parts F → Type 0
       LastMayLead tree.no_part = ⊥
       LastMayLead (tree.part mark condition rest) = LastMayLead rest ⊎ ((none_fails rest ≡ true) × MayLead condition)
 
-  -- The first labels that each tuple of a reference must have: those of its first indices, as long
-  -- as these are labels, or sets without a lag that have a label in the binding around the control.
+  -- A reference in the condition of a control reads only tuples that begin with these labels: those
+  -- of the reference's first indices, up to the first index with a lag, or whose set has no label
+  -- in the binding around the control.
   abbrev pub leading_labels : Pairs → tree.Indices F → List ℕ
   leading_labels binding tree.no_index = []
   leading_labels binding (tree.label label rest) = label ∷ leading_labels binding rest
@@ -113,9 +115,10 @@ module _ {F : Type 0} where
       let others = free_after binding indices (before ++ name ∷ []) rest in
       if is_told binding indices before name then others else name ∷ others
 
-  -- How many elements a traversal of the stored tuples of a reference visits at most: how many of
-  -- these tuples begin with `leading_labels`, times how many elements the product of the control's
-  -- sets has whose labels the tuples do not determine.
+  -- An upper bound of how many elements a traversal of the stored tuples of the reference to `name`
+  -- visits, for a control of these sets: the number of the tuples that begin with `leading_labels`,
+  -- times the number of elements in the product of the sets whose labels the tuples do not
+  -- determine.
   abbrev pub reach : State → Pairs → List ℕ → ℕ → tree.Indices F → ℕ
   reach state binding sets name indices =
       length (those_with (given_of state name) (leading_labels binding indices)) * length (elements state (free_after binding indices [] sets))

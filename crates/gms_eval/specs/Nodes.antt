@@ -98,8 +98,9 @@ start_of Smax = None
 
 -- ---- steps that have no fault
 
--- the operation of a relation: 1 if the value so far, which may be the result of a relation before,
--- has the relation to the operand, otherwise 0
+-- the operation of a relation, for a mark `related op`: 1 if the value so far, which may be the
+-- result of a relation before, has the relation `op` to the operand, otherwise 0; for a mark of
+-- another kind, the answer of the operand
 abbrev pub relation_step : ValueStep
 relation_step (related op) x answer = answer and_then λ y. Ok (truth (holds_between op x y))
 relation_step mark x answer = answer
@@ -113,8 +114,9 @@ all_step mark x answer = if is_so x then answer and_then (λ y. Ok (truth (is_so
 abbrev pub exclusive_or : Extended → Extended → Bool
 exclusive_or x y = if is_so x then not (is_so y) else is_so y
 
--- the operation `or`: 1 if an operand holds, otherwise 0, where the right one is not evaluated if
--- the left holds; or, if `exclusive`, `xor`: 1 if exactly one holds, otherwise 0
+-- the operation `or`, for a mark `chosen exclusive`: 1 if an operand holds, otherwise 0, where the
+-- right one is not evaluated if the left holds; or, if `exclusive`, `xor`: 1 if exactly one holds,
+-- otherwise 0. For a mark of another kind, the answer of the right operand
 abbrev pub one_step : ValueStep
 one_step (chosen exclusive) x answer =
     if not exclusive && is_so x then Ok (truth true) else answer and_then λ y. Ok (truth (exclusive_or x y))
@@ -123,15 +125,17 @@ one_step mark x answer = answer
 -- ---- steps under a limit, at a place and under a binding
 
 module _ (limit : ℕ) (binding : Pairs) where
-  -- the operation of a sum: the operand is added to the value so far, or subtracted if its mark has
-  -- the flag
+  -- the operation of a sum, for a mark `signed at subtracts`: the operand is added to the value so
+  -- far, or subtracted from it if `subtracts`; for a mark of another kind, the answer of the
+  -- operand
   abbrev pub sum_step : ValueStep
   sum_step (signed at subtracts) x answer =
       answer and_then λ y. taken at binding x y (if subtracts then difference limit x y else sum limit x y)
   sum_step mark x answer = answer
 
-  -- the operation of a product: the value so far is multiplied by the operand, or divided by it if
-  -- its mark has the flag
+  -- the operation of a product, for a mark `signed at divides`: the value so far is multiplied by
+  -- the operand, or divided by it if `divides`; for a mark of another kind, the answer of the
+  -- operand
   abbrev pub product_step : ValueStep
   product_step (signed at divides) x answer =
       answer and_then λ y. taken at binding x y (if divides then quotient limit x y else product limit x y)
@@ -142,7 +146,8 @@ module _ (limit : ℕ) (binding : Pairs) where
   signed_step signs.Sum = sum_step
   signed_step signs.Product = product_step
 
-  -- the operation of a power: the value so far raised to the operand
+  -- the operation of a power, for a mark `placed at`: the value so far raised to the operand; for a
+  -- mark of another kind, the answer of the operand
   abbrev pub power_step : ValueStep
   power_step (placed at) x answer = answer and_then λ y. taken at binding x y (power limit x y)
   power_step mark x answer = answer
@@ -172,8 +177,9 @@ module _ (limit : ℕ) (binding : Pairs) where
   called_with_two at function.Power x y = taken at binding x y (power limit x y)
   called_with_two at function x y = Ok nothing
 
-  -- the value of a function of its arguments, or its fault at the place `at`; with a wrong number
-  -- of arguments, and of a function that the language leaves out, 0
+  -- the value of a function of its arguments, or its fault at the place `at`; `max` and `min` admit
+  -- any number of arguments. The value is 0 if any other function has a wrong number of arguments,
+  -- or is one of GAMS that this language does not have, such as `exp`
   abbrev pub called : Place → Function → List Extended → Answer Extended
   called at function.Max xs = Ok (extreme greater xs)
   called at function.Min xs = Ok (extreme lesser xs)

@@ -17,8 +17,9 @@ use Rattle.gms_eval.specs.declared.stop.StopKind.TheVariants.{LagNotWhole}
 
 -- ---- indices
 
--- the label that a lag of this amount reaches from the label of its set; None beyond the end of the
--- set, or if the set has no label. An amount that is no integer is a fault
+-- the label that a lead or a lag `op` of this amount reaches from the label of its set
+-- (`lagged_label`); None if it reaches none, or if the set has no label. An amount that is no
+-- integer is a fault
 abbrev pub reached_label : State → Pairs → ℕ → LagOp → Place → Extended → Answer (Option ℕ)
 reached_label state binding set op at amount =
     ok_or (whole_number amount) (faulted LagNotWhole at binding amount nothing) and_then λ places. Ok (option_and_then (λ label. lagged_label (members_of state set) op places label) (label_of binding set))
@@ -51,15 +52,16 @@ abbrev pub upper_value : Option Number → Extended
 upper_value None = plus_infinity
 upper_value (Some x) = number x
 
--- the value of a name without a suffix at a tuple: of a set 1 at its members and 0 elsewhere, of
--- any other name its value there
+-- the value of a name without a suffix, whose content is `content`, at a tuple: of a set 1 at its
+-- members and 0 elsewhere; of a parameter its value there; of any other name 0
 abbrev pub plain_value : State → ℕ → Content → List ℕ → Extended
 plain_value state name (set_of members) tuple = truth (has members tuple)
 plain_value state name content tuple = value_of state name tuple
 
 module _ (limit : ℕ) (state : State) (binding : Pairs) where
   -- the value of the name at a tuple: without a suffix its value there, with one the bound, level,
-  -- marginal or status number that the suffix denotes; 0 for `.fx`
+  -- marginal or status number that the suffix denotes; 0 for `.fx`. A status number over the limit
+  -- is a fault at the place `at`
   abbrev pub read_entry : Place → ℕ → Suffix → List ℕ → Answer Extended
   read_entry at name suffix.None tuple = Ok (plain_value state name (symbol_of state name).content tuple)
   read_entry at name suffix.Lo tuple = Ok (lower_value (attributes_of state name tuple).lower)

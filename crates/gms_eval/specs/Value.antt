@@ -15,12 +15,14 @@ use Rattle.gms_eval.specs.Domain.{elements, sized, those_where}
 use Rattle.gms_eval.specs.Faults.{Answer, nothing, ◌and_then◌}
 use Rattle.gms_eval.specs.References.{reached_label, tuple_of, place_in_set, entry_or_zero}
 
--- the sets of a control, without its condition
+-- the sets of a control; a control is the sets over which an operation such as `sum`, a loop or an
+-- assignment runs, with a condition if there is one
 abbrev pub sets_of : {F : Type 0} → tree.Control F → List ℕ
 sets_of (tree.over sets) = sets
 sets_of (tree.over_where sets condition) = sets
 
--- the control of these sets with this condition, if there is one
+-- the control of an operation such as `sum`, a loop or an assignment that runs over these sets,
+-- with the condition if there is one (Some)
 abbrev pub control_over : {F : Type 0} → List ℕ → Option (tree.Tree F) → tree.Control F
 control_over sets None = tree.over sets
 control_over sets (Some condition) = tree.over_where sets condition
@@ -63,8 +65,8 @@ module _ {F : Type 0} (number_of : F → Number) (limit : ℕ) (state : State) w
     values binding tree.no_part = []
     values binding (tree.part mark part rest) = (mark, value binding part) ∷ values binding rest
 
-    -- the label of each index, or a fault of the amount of its lag; None if a lag goes beyond the
-    -- end of its set, or a set has no label
+    -- the label of each index, or a fault: that of the amount of its lag, or that the amount is no
+    -- integer; None if a lag reaches no label (`reached_label`), or a set has no label
     pub labels : Pairs → tree.Indices F → List (Answer (Option ℕ))
     labels binding tree.no_index = []
     labels binding (tree.label label rest) = Ok (Some label) ∷ labels binding rest
@@ -72,22 +74,24 @@ module _ {F : Type 0} (number_of : F → Number) (limit : ℕ) (state : State) w
     labels binding (tree.lagged set op at amount rest) =
         (value binding amount and_then λ x. reached_label state binding set op at x) ∷ labels binding rest
 
-    -- the elements of a control: those of the product of its sets for which the condition holds
-    -- under the binding with the element; a product that is too large is a fault at the place `at`
+    -- the elements of a control: those of the product of its sets for which its condition, if any,
+    -- holds under the binding with the element, or the first fault of the condition; a product that
+    -- is too large is a fault at the place `at`
     pub domain : Pairs → Place → tree.Control F → Answer (List (List ℕ))
     domain binding at (tree.over sets) = sized at binding (elements state sets)
     domain binding at (tree.over_where sets condition) =
         sized at binding (elements state sets) and_then λ all. those_where (λ element. when_so (value (controlled binding sets element) condition)) all
 
-  -- the label of the first of these indices, or a fault of the amount of its lag; None without
-  -- indices, beyond the end of the index's set, or if the set has no label
+  -- the label of the first of these indices, or a fault: that of the amount of its lag, or that the
+  -- amount is no integer; None without indices, if the lag reaches no label (`reached_label`), or
+  -- if the set has no label
   abbrev pub first_label : Pairs → tree.Indices F → Answer (Option ℕ)
   first_label binding tree.no_index = Ok None
   first_label binding (tree.label n rest) = Ok (Some n)
   first_label binding (tree.set name rest) = Ok (label_of binding name)
   first_label binding (tree.lagged name op at amount rest) = value binding amount and_then λ x. reached_label state binding name op at x
 
-  -- the label of an index, or a fault of the amount of its lag; None beyond the end of the index's
-  -- set, or if the set has no label
+  -- the label of an index, or a fault: that of the amount of its lag, or that the amount is no
+  -- integer; None if the lag reaches no label (`reached_label`), or if the set has no label
   abbrev pub label_answer : Pairs → Index F → Answer (Option ℕ)
   label_answer binding index = first_label binding (index_tree index tree.no_index)

@@ -292,8 +292,9 @@ fn one_of<F: ExactField>(
     Ok(so_far.unwrap_or(zero()))
 }
 
-/// Whether all guards hold; true if there is no guard. They are evaluated from the last to the
-/// first, up to one that does not hold. A stop is the first fault of an evaluated guard.
+/// Whether all guards, the conditions after `$`, hold; true if there is none. A guard holds if its
+/// value is not 0. They are evaluated from the last to the first, up to one that does not hold. A
+/// stop is the first fault of an evaluated guard.
 #[cycle(value)]
 #[inline(never)]
 pub fn all_hold<F: ExactField>(
@@ -334,8 +335,9 @@ fn arguments<F: ExactField>(
 }
 
 /// The tuple of the labels that the indices have, in order; `None` if an index has no label or
-/// there are more than 10 indices. A stop is the first fault of a lag: a fault in the evaluation of
-/// the amount, or `LagNotWhole` if the amount is not a whole number.
+/// there are more than 10 indices. A set has no label if the binding gives it none, or if its lag
+/// reaches none. A stop is the first fault of a lag: a fault in the evaluation of the amount, or
+/// `LagNotWhole` if the amount is not a whole number.
 #[cycle(value)]
 #[inline(never)]
 pub fn tuple_of<F: ExactField>(
@@ -487,8 +489,8 @@ pub fn holds<F: ExactField>(
 }
 
 /// The elements of the control `c`, such as `(i,j)$p(i,j)`, in the state `store`, under the binding
-/// `b`: those elements of the product of its sets for which its condition, if any, holds, in the
-/// order of tuples.
+/// `b`: those elements of the product of its sets for which its condition, if any, holds. They are
+/// in the order of tuples: by the number of the first label, then of the second, and so on.
 ///
 /// If the product has more than 16,777,216 elements, the stop is `DomainSize` at the place `at`;
 /// its count is the number of elements, or the greatest `u64` if there are more. Otherwise a stop
@@ -511,11 +513,13 @@ pub fn domain<F: ExactField>(
     }
 }
 
-/// The elements of the product of `sets` for which the condition, if any, holds, in the order of
-/// tuples.
+/// The elements of the product of `sets`, which are numbers of names, for which the condition, if
+/// any, holds in the state `store` under the binding `b`. They are in the order of tuples: by the
+/// number of the first label, then of the second, and so on.
 ///
 /// The function is `domain` for sets and a condition that the source does not write as one control,
-/// as on the left side of an assignment. It stops as `domain` does.
+/// as on the left side of an assignment. It stops as `domain` does; `at` is the place of
+/// `DomainSize`.
 pub fn domain_over<F: ExactField>(
     alloc: Global,
     store: &Store<F>,

@@ -227,10 +227,11 @@ fn traversal_by<F: ExactField>(
 pub(crate) struct Scan {
     /// Whether the shape of the searched condition alone shows that its evaluation has no fault.
     pub safe: bool,
-    /// A number of elements: a traversal that is found later is taken only if it visits fewer.
+    /// How many elements `traversal` visits, or, if it is `None`, the bound with which the search
+    /// began. If the search continues, it takes a traversal only if that visits fewer elements.
     pub bound: usize,
-    /// The shortest traversal of the stored tuples of a reference that was found; `None` if none
-    /// was found that visits fewer elements than `bound`.
+    /// The traversal of the stored tuples of a reference that visits the fewest elements, of those
+    /// found; `None` if each visits at least as many elements as the bound at the start.
     pub traversal: Option<Traversal>,
 }
 

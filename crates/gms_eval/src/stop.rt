@@ -105,15 +105,16 @@ impl StopKind {
     }
 }
 
-/// A stop of an execution: its kind, its place in the source, and the labels and operands of the
-/// operation there.
+/// A stop of an execution: its kind, its place in the source, the operands of the operation there,
+/// and the labels of the sets that are controlled there.
 #[derive(Debug, Error)]
 #[error("{at}: {code} {name}: {kind}", code = .kind.code(), name = .kind.name())]
 pub struct ExecStop<F> {
     /// Why the execution stops.
     pub kind: StopKind,
-    /// The place of the operation in the source: the place of its right operand if it has two
-    /// operands, otherwise the place of its first character.
+    /// The place in the source: that of the right operand of `+`, `-`, `*`, `/` or `**`, that of
+    /// the amount of a lag, otherwise that of the first character of the expression, statement or
+    /// displayed name at which the execution stops.
     pub at: Place,
     /// The controlled sets at the operation, each with its label, outermost first.
     pub binding: Binding,
@@ -200,8 +201,8 @@ impl<F: ExactField> ExecStopOrMemory<F> {
     }
 
     /// The stop of this kind at an operation on the operands `left` and `right`, at the place `at`,
-    /// under the binding `b`; `Memory` if there is no memory for the stop. The count of the stop is
-    /// 0.
+    /// under the binding `b`; `Memory` if there is no memory for the stop. The count of the stop, a
+    /// number of elements, rows or columns at stops of other kinds, is 0.
     #[inline(never)]
     pub fn at_step(
         alloc: Global,
@@ -243,7 +244,7 @@ impl<F: ExactField> ExecStopOrMemory<F> {
 
 /// The value in `answer`, the result of an operation on the operands `left` and `right`. If
 /// `answer` is a fault, the error is the stop for this fault, with the operands, at the place `at`
-/// under the binding `b`.
+/// under the binding `b`, or `Memory` if there is no memory for the stop.
 pub fn taken<F: ExactField>(
     alloc: Global,
     at: Place,

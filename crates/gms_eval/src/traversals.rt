@@ -31,11 +31,12 @@ pub(crate) struct Traversal {
     /// The sets of the control whose labels the tuples do not determine, by the numbers of their
     /// names, in the order of the control.
     pub free: Vec<u32>,
-    /// The number of elements of the product of the sets `free`.
+    /// The number of elements of the product of the sets `free`, whose labels the tuples do not
+    /// determine.
     pub spread: usize,
     /// For each label of an element of the control, in order, the index, from 0, at which the label
     /// occurs in the list of a traversed tuple's labels followed by a label of each of the sets
-    /// `free`.
+    /// `free`, those whose labels the tuples do not determine.
     pub places: Vec<usize>,
 }
 

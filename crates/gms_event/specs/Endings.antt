@@ -11,7 +11,9 @@ use Rattle.lp_core.specs.declared.answer.End.TheVariants.{Optimal, Infeasible, U
 abbrev pub interrupted : ℕ → SolveStatus
 interrupted phase = if phase == 1 then status.Intermediate else status.Feasible
 
--- the status of a model after a solve with this end
+-- The status of a model after a solve with this end. `Interrupted` is an end at the limit of
+-- pivots, in phase 1 or 2. `Refused` is an end at the step `name`, whose result exceeds the
+-- limit of the number field.
 abbrev pub solve_status : {F : Type 0} → End F → SolveStatus
 solve_status (Optimal levels row_levels duals reduced) = status.Optimal
 solve_status (Unbounded levels row_levels ray) = status.Unbounded

@@ -5,9 +5,13 @@ ghost use Rattle.gms_event.specs.Endings.{solve_status};
 use gms_store::SolveStatus;
 use lp_core::End;
 
-/// The status of a model `m` after a solve with this end. The state of the run, the values
-/// `m.modelstat` and `m.solvestat`, and the listing take their numbers and texts from this status.
-/// GAMS User's Guide, "GAMS Output", model status and solver status.
+/// The status of a model `m` after a solve, by how the search for the answer of its linear program
+/// ended (`end`). Optimal, Unbounded and Infeasible give the status of that name. Interrupted gives
+/// Intermediate in phase 1, else Feasible. Refused gives Unanswered.
+///
+/// The state of the run, the values `m.modelstat` and `m.solvestat`, and the listing take their
+/// numbers and texts from this status. GAMS User's Guide, "GAMS Output", model status and solver
+/// status.
 pub fn solve_status<F>(end: &End<F>) -> SolveStatus
     ensures { result ≡ solve_status end.now }
 {

@@ -1,5 +1,5 @@
 -- What a statement that is no loop did, by its act, and what it kept.
-use Rattle.std.proofs.Common.{◌≡◌, ℕ, ◌<◌, ◌≤◌, Bool, List, length, map, refl, sym, ap, subst, ◌∙◌, Option, option_map, Result, Ok}
+use Rattle.std.proofs.Common.{◌≡◌, ℕ, Bool, List, length, map, refl, sym, ap, subst, ◌∙◌, Option, option_map, Result, Ok}
 use Rattle.gms_labels.specs.declared.place.Place.{Place}
 use Rattle.gq_number.specs.Number.{Number}
 use Rattle.gms_ast.specs.declared.word.Word.{Word}
@@ -22,11 +22,10 @@ use Rattle.gms_eval.specs.declared.stop.ExecStopOrMemory.{ExecStopOrMemory}
 use Rattle.gms_event.specs.declared.event.Event.{Event}
 use Rattle.lp_core.specs.declared.answer.Answer.{Answer}
 use Rattle.gms_exec.specs.Assignment.{target_of, after_assignment}
-use Rattle.gms_exec.specs.Dimensions.{AreOneDimensional}
 use Rattle.gms_exec.specs.Options.{after_options}
 use Rattle.gms_exec.specs.Run.{Course, World, labels_in, in_state, with_evaluated, display, abort_where, solve, of_statement}
 use Rattle.gms_exec.specs.InnerContracts.{Assigns, IsOnce, AsksNoSolver}
-use Rattle.gms_exec.specs.Stepping.{RunView, course_from_view, Runs, AreValidSettings, UnlessMemory}
+use Rattle.gms_exec.specs.Stepping.{RunView, course_from_view, Runs, UnlessMemory}
 use Rattle.gms_exec.proofs.ActSteps.{on-Assign, on-Display, on-Options, on-Abort, on-Solve, on-Declare, on-Alias, on-Define, on-Model}
 use Rattle.gms_exec.proofs.Arms.{runs-alike, runs-assigned, runs-nothing, runs-state}
 use Rattle.gms_exec.specs.Executing.{CanExecute}

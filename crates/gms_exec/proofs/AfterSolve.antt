@@ -1,12 +1,11 @@
 -- What a solve leaves: its elements have their levels and marginals, and all else stays.
 use Rattle.gms_exec.proofs.Joining.{get-prefix}
-use Rattle.std.proofs.Common.{◌≡◌, ◌⊎◌, ℕ, zero, suc, ◌+◌, ◌<◌, Bool, true, false, not, ◌==◌, List, [], ◌∷◌, ◌++◌, length, map, set, slice_get, refl, sym, ap, ◌∙◌, cond, subst, Option, Some, None, unwrap_or, option_map, pos, arith, inl, inr}
+use Rattle.std.proofs.Common.{◌≡◌, ◌⊎◌, ℕ, zero, suc, ◌+◌, ◌<◌, Bool, true, false, not, ◌==◌, List, [], ◌∷◌, ◌++◌, length, map, slice_get, refl, sym, ap, ◌∙◌, cond, subst, Option, Some, None, unwrap_or, option_map, pos, arith, inl, inr}
 use Rattle.std.specs.List.{fold}
 use Rattle.std.proofs.lemmas.List.{length-set, map-append}
 use Rattle.std.proofs.lemmas.Option.{slice_get-map}
 use Rattle.gq_number.specs.Number.{Number, whole}
-use Rattle.gms_tuple.specs.TupleOrder.{same_tuple}
-use Rattle.gms_store.specs.State.{Attributes, Content, undeclared, alias_of, set_of, parameter_of, variable_of, equation_of, model_with, Symbol, State, alias_target, base_of, symbol_at, symbol_of, with_content, with_symbol, if_fits, with_attributes, with_statuses, attributes_in, attributes_of, statuses_in, after_statuses, with_level, with_marginal, has_attributes}
+use Rattle.gms_store.specs.State.{Attributes, Content, undeclared, alias_of, set_of, parameter_of, variable_of, equation_of, model_with, Symbol, State, alias_target, base_of, symbol_at, symbol_of, with_content, if_fits, with_attributes, with_statuses, attributes_in, attributes_of, statuses_in, after_statuses, with_level, with_marginal, has_attributes}
 use Rattle.gms_store.proofs.Writes.{symbol-after, symbol-changed, reads-same, attributes_after, attributes_elsewhere}
 use Rattle.lp_core.specs.declared.program.Lp.{Lp}
 use Rattle.lp_core.specs.declared.answer.End.{End}

@@ -1,5 +1,5 @@
 -- The content of each name after elements of one name were assigned, and what is read there.
-use Rattle.std.proofs.Common.{◌≡◌, ℕ, ◌<◌, Bool, true, false, not, ◌&&◌, ◌==◌, List, length, refl, sym, ap, ◌∙◌, Option, Some, None, unwrap_or, option_map, pos}
+use Rattle.std.proofs.Common.{◌≡◌, ℕ, ◌<◌, true, false, not, ◌&&◌, ◌==◌, List, length, refl, sym, ap, ◌∙◌, Option, Some, None, unwrap_or, option_map, pos}
 use Rattle.std.specs.declared.cmp.Ordering.{Ordering}
 use Rattle.std.specs.declared.cmp.Ordering.TheVariants.{Less, Equal, Greater}
 use Rattle.std.specs.Ordering.{is_eq}

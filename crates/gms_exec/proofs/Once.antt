@@ -1,11 +1,9 @@
 -- An assignment gives no element twice: two elements of its sets have two tuples on the left.
 use Rattle.gms_rows.proofs.Domains.{only_value}
-use Rattle.std.proofs.Common.{◌≡◌, ◌⊎◌, ℕ, zero, suc, ◌+◌, ◌-◌, ◌*◌, ◌/◌, ◌%◌, ◌<◌, ◌≤◌, ◌==◌, ℤ, pos, negsuc, ◌+ℤ◌, neg_ℤ, Bool, true, false, not, ◌&&◌, ◌||◌, List, [], ◌∷◌, ◌++◌, map, filter, length, get_or, slice_get, Option, Some, None, is_none, option_map, option_and_then, Result, Ok, Err, refl, sym, ap, ◌∙◌, subst, cond, eq-eqb, arith, inl, inr, if◌then◌else◌}
-use Rattle.std.specs.Prelude.{ok_or, nat_le, nat_lt}
+use Rattle.std.proofs.Common.{◌≡◌, ℕ, zero, suc, ◌+◌, ◌-◌, ◌*◌, ◌/◌, ◌%◌, ◌<◌, ◌≤◌, ◌==◌, ℤ, pos, negsuc, ◌+ℤ◌, neg_ℤ, Bool, true, false, not, ◌||◌, List, [], ◌∷◌, map, filter, length, get_or, slice_get, Option, Some, None, is_none, option_map, option_and_then, Ok, Err, refl, sym, ap, ◌∙◌, subst, cond, eq-eqb, arith, inl, inr, if◌then◌else◌}
+use Rattle.std.specs.Prelude.{ok_or, nat_lt}
 use Rattle.std.specs.Int.{int_rem_euclid}
-use Rattle.std.specs.List.{All, AllByRecursion, IsDistinct, list_any}
-use Rattle.std.specs.declared.cmp.Ordering.{Ordering}
-use Rattle.std.specs.declared.cmp.Ordering.TheVariants.{Less}
+use Rattle.std.specs.List.{AllByRecursion, IsDistinct, list_any}
 use Rattle.std.proofs.Math.Nat.{mul-le-mul_right}
 use Rattle.std.proofs.lemmas.Bool.{cases_lt, eqb-true}
 use Rattle.std.proofs.lemmas.Int.{int_rem_euclid_is, ints}
@@ -20,7 +18,7 @@ use Rattle.gms_ast.specs.declared.expression.LagOp.TheVariants.{Lead, Lag, Circu
 use Rattle.gms_ast.specs.declared.expression.Suffix.TheVariants as suffix
 use Rattle.gms_ast.specs.StatementTrees.{Target}
 use Rattle.gms_ast.specs.Trees as tree
-use Rattle.gms_tuple.specs.TupleOrder.{tuple_cmp, same_tuple, IsOrdered}
+use Rattle.gms_tuple.specs.TupleOrder.{same_tuple, IsOrdered}
 use Rattle.gms_tuple.specs.TupleSet.{has, place_of_tuple}
 use Rattle.gms_tuple.proofs.Members.{after-first}
 use Rattle.gms_tuple.proofs.Ordered.{first-before, rest-ordered, same_tuple-Decides, same_tuple-Less, same_tuple_refl}
@@ -28,7 +26,7 @@ use Rattle.gms_store.specs.State.{State, members_of}
 use Rattle.gms_eval.specs.Nodes.{in_order}
 use Rattle.gms_eval.specs.Bindings.{Pairs, label_of, paired, controlled}
 use Rattle.gms_eval.specs.Domain.{elements, sized, those_where, too_large, IsSimple}
-use Rattle.gms_eval.specs.Faults.{Answer, Fault, nothing, faulted, ◌and_then◌}
+use Rattle.gms_eval.specs.Faults.{Answer, nothing, faulted, ◌and_then◌}
 use Rattle.gms_eval.specs.Lag.{label_of_element, label_at, moved, lagged_label, whole_number}
 use Rattle.gms_eval.specs.References.{reached_label, tuple_of}
 use Rattle.gms_eval.specs.Value.{value, labels, domain, control_over, when_so}

@@ -1,7 +1,6 @@
 -- What the store does where an element is given something.
 use Rattle.gms_rows.proofs.Placing.{map-more}
-use Rattle.std.proofs.Common.{◌≡◌, ℕ, ◌+◌, ◌<◌, ◌≤◌, List, [], ◌∷◌, ◌++◌, length, map, take, get_or, take_all, sym, ap, subst, ◌∙◌, Bool, Option, Some, OnOk, Result}
-use Rattle.std.proofs.lemmas.List.{take_more, map-append}
+use Rattle.std.proofs.Common.{◌≡◌, ℕ, ◌+◌, ◌<◌, ◌≤◌, List, [], ◌∷◌, length, map, take, get_or, take_all, sym, ap, subst, ◌∙◌, Bool, Option, Some, OnOk, Result}
 use Rattle.std.proofs.lemmas.Result.{on_ok_weaker}
 use Rattle.gq_number.specs.Number.{Number}
 use Rattle.gq_extended.specs.Extended.{Extended}

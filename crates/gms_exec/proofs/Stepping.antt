@@ -7,7 +7,7 @@ use Rattle.lp_core.specs.declared.answer.Answer.{Answer}
 use Rattle.lp_core.specs.declared.answer.Pivot.{Pivot}
 use Rattle.lp_slot.specs.declared.solver.SolverRule.{SolverRule}
 use Rattle.gms_exec.specs.ValidEvents.{ShowsValidEvents}
-use Rattle.gms_exec.specs.Stepping.{RunView, Answered}
+use Rattle.gms_exec.specs.Stepping.{RunView}
 use Rattle.gms_exec.proofs.Joining.{answered-nothing, answered-both}
 use Rattle.gms_exec.specs.Executing.{CanExecute, Leaves}
 use Rattle.gms_exec.proofs.ValidSequences.{valid-nothing, valid-both}

@@ -10,9 +10,11 @@ use Rattle.lp_slot.specs.declared.solver.SolverRule.{SolverRule}
 use Rattle.lp_core.specs.declared.program.Lp.{Lp}
 use Rattle.gms_event.specs.Events.{Solved}
 
--- A shown solve is answered: the answer whose index it has in `answers` is one of its linear
--- program `lp`, under the limit on numbers, with at most `iterlim` pivots, by the rule of the
--- solver that its settings choose.
+-- The solve `solved`, an event of a run, is answered: its linear program is `lp` with the numbers
+-- that its values mean, and the answer at the index `solved.answer` of `answers` is an answer of
+-- `lp`, under the limit `limit` on the size of numbers, with at most `iterlim` pivots. The pivots
+-- obey the rule of the solver that the settings of the solve choose; `rules` has the pivot rule of
+-- each solver. `value` gives the number that a value of `F` means.
 pub record IsSolved {F : Type 0} (value : F → Number) (limit : ℕ) (rules : List SolverRule) (answers : List (Answer F)) (solved : Solved) : Type 0 where
   pub lp : Lp F
   pub shows : lp_numbers value lp ≡ solved.lp
@@ -22,11 +24,14 @@ pub record IsSolved {F : Type 0} (value : F → Number) (limit : ℕ) (rules : L
   pub chosen : slice_get rules solved.settings.solver ≡ Some rule
   pub is_answer : IsAnswerUnder value limit lp solved.settings.iterlim rule answer
 
--- if the event is a solve, it is answered; any other event needs no answer
+-- if the event is a solve, `answers` has an answer of its linear program, under the limit `limit`
+-- on the size of numbers and by the pivot rule of its solver (`IsSolved`); any other event needs no
+-- answer
 abbrev pub IsAnswered : {F : Type 0} → (F → Number) → ℕ → List SolverRule → List (Answer F) → Event → Type 0
 IsAnswered value limit rules answers (solves solved) = IsSolved value limit rules answers solved
 IsAnswered value limit rules answers event = Unit {0}
 
--- each solve among events is answered
+-- for each solve among these events, `answers` has an answer of its linear program, under the limit
+-- `limit` on the size of numbers and by the pivot rule of its solver (`IsSolved`)
 abbrev pub AreAnswered : {F : Type 0} → (F → Number) → ℕ → List SolverRule → List (Answer F) → List Event → Type 0
 AreAnswered value limit rules answers events = All (IsAnswered value limit rules answers) events

@@ -12,7 +12,7 @@ use Rattle.gms_ast.specs.declared.program.Target.{Target as TargetNode}
 use Rattle.gms_ast.specs.StatementTrees.{Target}
 use Rattle.gms_ast.specs.TreeView.{index_tree, indices_of}
 use Rattle.gms_ast.specs.Trees as tree
-use Rattle.gms_store.specs.State.{State, Content, alias_of, set_of, symbol_of}
+use Rattle.gms_store.specs.State.{State, symbol_of}
 use Rattle.gms_eval.specs.Nodes.{in_order}
 use Rattle.gms_eval.specs.Bindings.{Pairs, label_of, controlled}
 use Rattle.gms_eval.specs.Faults.{Answer, nothing, faulted, ◌and_then◌}
@@ -50,7 +50,7 @@ takes_value suffix.Fx x = false
 takes_value other x = true
 
 -- the value x, if a name with this suffix can be assigned it; otherwise the fault Undefined at the
--- place of the right side
+-- place of the right side, with the binding and with x as the left operand
 abbrev pub where_taken : Suffix → Place → Pairs → Extended → Answer Given
 where_taken suffix right_at binding x =
     if takes_value suffix x then Ok (value_is x) else Err (faulted Undefined right_at binding x nothing)
@@ -69,22 +69,26 @@ module _ {F : Type 0} (number_of : F → Number) (limit : ℕ) (state : State) w
       membership number_of limit state binding right and_then (λ x. Ok (member x)) else
       value number_of limit state binding right and_then where_taken target.suffix right_at binding
 
-  -- the tuple of the left side under a binding, with what is assigned to it; None if there is no
-  -- tuple, as a lag goes beyond the end of its set
+  -- the tuple of the left side under a binding, with what is assigned to it; None if an index has
+  -- no label, for example if its lag goes past an end of its set, or if there are more than 10
+  -- indices; or the first fault
   abbrev pub element_under : Target F → Place → tree.Tree F → Pairs → Answer (Option (List ℕ × Given))
   element_under target right_at right binding =
       in_order (labels number_of limit state binding target.indices) and_then λ those.
       elim (tuple_of those) [ None ↦ Ok None | Some t ↦ given_under target right_at right binding and_then λ given. Ok (Some (t, given)) ]
 
-  -- the elements that exist, each with what is assigned to it
+  -- the entries of this list without those that are None: the elements that exist, each with what
+  -- is assigned to it
   abbrev pub given_elements : List (Option (List ℕ × Given)) → AllGiven
   given_elements [] = []
   given_elements (None ∷ rest) = given_elements rest
   given_elements (Some given ∷ rest) = given ∷ given_elements rest
 
-  -- the elements with what an assignment assigns to each, in the order of the left side's sets, all
-  -- evaluated in the old state; or the first fault: of the left side's domain, and then, for each
-  -- element, of a lag, of the right side, and of a value that cannot be assigned
+  -- the elements with what an assignment in a statement at the place `at` assigns to each, in the
+  -- order of the left side's sets, all evaluated in the old state, without those whose left side
+  -- has no tuple (`element_under`); or the first fault: of the left side's domain with the
+  -- condition, and then, for each element, of a lag, of the right side, and of a value that cannot
+  -- be assigned. `right_at` is the place of the right side
   abbrev pub given_by : Place → Pairs → Target F → Option (tree.Tree F) → Place → tree.Tree F → Answer AllGiven
   given_by at binding target condition right_at right =
       let sets = newly_controlled binding target.indices in

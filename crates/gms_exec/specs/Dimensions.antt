@@ -15,8 +15,8 @@ AreOverOne state (tree.label label rest) = AreOverOne state rest
 AreOverOne state (tree.set set rest) = (length (symbol_of state set).domain ≡ 1) × AreOverOne state rest
 AreOverOne state (tree.lagged set op at amount rest) = (length (symbol_of state set).domain ≡ 1) × AreOverOne state rest
 
--- The indices of each definition are labels and sets without lags, and each of these sets is
--- declared with one dimension.
+-- The indices of the definition of each equation are labels and sets without lags; each of these
+-- sets is declared with one dimension, and each of its members has one label.
 pub record AreOneDimensional {F : Type 0} (state : State) (statements : List (Stmt F)) : Type 0 where
   pub plain : HasPlainDefinitions state statements
   pub declared : All (λ (d : Definition F). AreOverOne state d.indices) (definitions statements)

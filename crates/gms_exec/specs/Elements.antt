@@ -30,15 +30,15 @@ pub record AreElements (state : State) (keys : List Key) : Type 0 where
 abbrev pub program_elements : Lp Number → List Key
 program_elements lp = keys_of_columns lp ++ row_keys lp
 
--- the levels of columns and of rows at the feasible point of an end that is not optimal; None if it
--- has none
+-- the levels of columns and of rows of an end that is Unbounded, or Interrupted in phase 2: those
+-- of its feasible point; None for any other end, also for an optimal one
 abbrev pub feasible_levels : End Number → Option (List Number × List Number)
 feasible_levels (Unbounded levels row_levels ray) = Some (levels, row_levels)
 feasible_levels (Interrupted phase levels row_levels) = if phase == 2 then Some (levels, row_levels) else None
 feasible_levels end = None
 
 -- whether an end has no feasible point: none exists, the pivots ended before phase 2, or a number
--- did not fit under the limit
+-- exceeded the limit on the size of numbers
 abbrev pub has_no_point : End Number → Bool
 has_no_point (Infeasible duals crossed) = true
 has_no_point (Interrupted phase levels row_levels) = not (phase == 2)

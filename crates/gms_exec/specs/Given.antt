@@ -85,7 +85,8 @@ abbrev pub fixed : Number → Attributes → Attributes
 fixed x a = record { lower = Some x; upper = Some x; level = x; marginal = a.marginal }
 
 -- the attributes of an element with the attributes `a`, after this value was assigned to the
--- attribute of this suffix
+-- attribute of this suffix, for `Fx` to both bounds and the level; unchanged if the suffix is that
+-- of no attribute
 abbrev pub with_attribute : Suffix → Attributes → Extended → Attributes
 with_attribute suffix.Lo a value = with_lower a (bound_of_value value)
 with_attribute suffix.Up a value = with_upper a (bound_of_value value)
@@ -107,7 +108,9 @@ abbrev pub plain_values : Suffix → AllGiven → List (List ℕ × Extended)
 plain_values suffix.None all = values_given all
 plain_values other all = []
 
--- the content of a name after an assignment of `all`, with this suffix, to elements of the name
+-- the content of a name after an assignment of `all`, with this suffix, to elements of the name.
+-- Entries that equal those of an element without data are not kept. A content that is no set,
+-- parameter, variable or equation is unchanged.
 abbrev pub with_given : Suffix → AllGiven → Content → Content
 with_given suffix all (set_of members) = set_of (with_members (members_given all) members)
 with_given suffix all (parameter_of entries) = parameter_of (overlaid_entries is_given (plain_values suffix all) entries)
@@ -122,8 +125,8 @@ with_given suffix all content = content
 abbrev pub fitting : Symbol → AllGiven → AllGiven
 fitting symbol all = filter (λ given. length given.0 == length symbol.domain) all
 
--- the state after an assignment of `all` to elements of the name, with this suffix: their entries
--- change, and all else stays
+-- the state after an assignment of `all` to elements of the name, with this suffix: the entries of
+-- those elements change that have as many labels as the name has positions, and all else stays
 abbrev pub after_given : Suffix → ℕ → AllGiven → State → State
 after_given suffix name all state =
     let symbol = symbol_of state name in

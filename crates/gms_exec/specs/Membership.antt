@@ -11,9 +11,9 @@ use Rattle.gms_eval.specs.Faults.{Answer, ◌and_then◌}
 use Rattle.gms_eval.specs.Holds.{holds}
 use Rattle.gms_eval.specs.Value.{values}
 
--- a step that joins the operands of a set expression: from the mark of the next operand, whether
--- the element is in the result so far, and whether it is in that operand, to whether it is in the
--- next result
+-- a step that joins the operands of a set expression: from the mark of the next operand, which has
+-- the operator before it, whether the element is in the result so far, and whether it is in that
+-- operand, to whether it is in the next result
 abbrev pub MembershipJoin : Type 0
 MembershipJoin = Mark → Bool → Bool → Bool
 
@@ -49,7 +49,8 @@ module _ {F : Type 0} (number_of : F → Number) (limit : ℕ) (state : State) (
         each_holds (unmarked (values number_of limit state binding guards)) and_then λ hold. if hold then membership operand else Ok false
     membership other = holds number_of limit state binding other
 
-    -- the answers of the operands of a sum or a product, each with its mark
+    -- the answers of the operands of a sum or a product, each with its mark, which has the operator
+    -- before it
     pub memberships : tree.Parts F → List (Mark × Answer Bool)
     memberships tree.no_part = []
     memberships (tree.part mark part rest) = (mark, membership part) ∷ memberships rest

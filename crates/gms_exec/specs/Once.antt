@@ -17,8 +17,9 @@ is_constant_lag (tree.number n) = true
 is_constant_lag (tree.reference at name suffix.None tree.no_index) = true
 is_constant_lag e = false
 
--- The indices are those of a left side of an accepted program: each set has one dimension, and the
--- amount of each lag is a number or a scalar.
+-- The indices are as in a left side of an accepted program: the members of each set among them have
+-- one label each and are distinct and in ascending order, and the amount of each lag is a number,
+-- or a name without indices and suffix.
 abbrev pub AreLeft : {F : Type 0} → State → tree.Indices F → Type 0
 AreLeft state tree.no_index = Unit {0}
 AreLeft state (tree.label label rest) = AreLeft state rest

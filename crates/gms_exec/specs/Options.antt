@@ -40,13 +40,14 @@ switch_set old (setting.Name word) =
     if is_same_word (codes "on") word.text then true else if is_same_word (codes "off") word.text then false else old
 
 -- the index of the first solver that has the name to which the option is set, letter case ignored;
--- the old index if none has it
+-- the old index if none has it or if the option is set to a number
 abbrev pub solver_set : {F : Type 0} → List (List ℕ) → ℕ → Setting F → ℕ
 solver_set solvers old (setting.Number at x) = old
 solver_set solvers old (setting.Name word) = unwrap_or (position (is_same_word word.text) solvers) old
 
 module _ {F : Type 0} (value : F → Number) (solvers : List (List ℕ)) where
-  -- the settings after one option; an option without effect changes nothing
+  -- the settings after one option; an option other than these six, or a value that its option does
+  -- not admit, changes nothing
   abbrev pub after_option : Settings → Word × Setting F → Settings
   after_option s (word, set) =
       if is_same_word (codes "limrow") word.text then record s { limrow = count_set value 2147483647 s.limrow set } else

@@ -79,13 +79,14 @@ pub record World (F : Type 0) : Type 0 where
 abbrev pub labels_in : {F : Type 0} → World F → ℕ
 labels_in world = length world.program.labels
 
--- what a statement makes of a course, where the pairs give a label to each set that the loops
--- around it control
+-- the effect of a statement on a course, that is, on how far a run has come; the pairs give a label
+-- to each set that the loops around the statement control
 abbrev pub OfStatement : Type 0
 OfStatement = Pairs → Course → Course
 
--- what an act, a statement without its place, makes of a course, where the pairs give a label to
--- each set that the loops around it control
+-- the effect of an act, that is, of a statement without its place, on a course, that is, on how far
+-- a run has come, from the place of the statement; the pairs give a label to each set that the
+-- loops around the act control
 abbrev pub OfAct : Type 0
 OfAct = Place → Pairs → Course → Course
 
@@ -94,39 +95,44 @@ abbrev pub in_sequence : List OfStatement → OfStatement
 in_sequence statements binding course =
     fold (λ course statement. while_it_runs (statement binding) course) course statements
 
--- the course after the body of a loop for each element in sequence, under the binding with the
--- element; once it has halted it is unchanged
+-- the course after the body of a loop for each element in sequence, under the binding in which the
+-- loop's sets, `sets`, have the labels of the element; once it has halted it is unchanged
 abbrev pub for_each : List ℕ → List OfStatement → List (List ℕ) → OfStatement
 for_each sets body elements binding course =
     fold (λ course element. in_sequence body (controlled binding sets element) course) course elements
 
 module _ {F : Type 0} (number_of : F → Number) (limit : ℕ) where
-  -- the course after a display: its items are shown as they are at that point; `labels` is how many
-  -- labels the program has
+  -- the course after a display in a program with `labels` labels: its items are shown as they are
+  -- at that point; the first fault of an item halts the run
   abbrev pub display : ℕ → List Show → OfAct
   display labels items at binding course =
       with_evaluated (all_shown labels course.state binding items) (λ shown. with_event course (displays at.line shown)) course
 
-  -- the course after an abort that acts: it shows its items and halts the run
+  -- the course after an abort that acts, in a program with `labels` labels: it shows its items and
+  -- halts the run with the fault Aborted; if an item has a fault, this halts the run, and no item
+  -- is shown
   abbrev pub abort : ℕ → List Show → OfAct
   abort labels items at binding course =
       with_evaluated (all_shown labels course.state binding items)
       (λ shown. stopped_by (with_event course (aborts at.line shown)) (faulted Aborted at binding nothing nothing)) course
 
-  -- the course after an abort, which acts if it has no condition or its condition holds
+  -- the course after an abort in a program with `labels` labels: the abort acts if it has no
+  -- condition or its condition holds; a fault of the condition halts the run
   abbrev pub abort_where : ℕ → Option (tree.Tree F) → List Show → OfAct
   abort_where labels None items at binding course = abort labels items at binding course
   abort_where labels (Some condition) items at binding course =
       with_evaluated (holds number_of limit course.state binding condition) (λ so. if so then abort labels items at binding course else course) course
 
   -- the course after a loop: its body is executed for each element that its control has at the
-  -- beginning
+  -- beginning; a fault of the control halts the run
   abbrev pub over_elements : tree.Control F → List OfStatement → OfAct
   over_elements control body at binding course =
       with_evaluated (domain number_of limit course.state binding at control) (λ elements. for_each (sets_of control) body elements binding course) course
 
   -- the course after a solve of this linear program: the next answer is written into the state, and
-  -- the solve is shown; if no answer remains the run halts
+  -- the solve is shown, with the index of its answer and the objective's level after the solve; if
+  -- no answer remains the run halts. `solvers` has the names of the solvers, and `equations` the
+  -- numbers of the names of the model's equations.
   abbrev pub answered : List (List ℕ) → ℕ → List ℕ → ℕ → Place → Course → Lp Number → Course
   answered solvers model equations objective at course lp =
       elim course.left [
@@ -159,7 +165,7 @@ module _ {F : Type 0} (number_of : F → Number) (limit : ℕ) where
       with_evaluated (program_lp number_of limit course.state statements model objective maximize at) (answered (solver ∷ solvers) model (equations_of statements model) objective at course) course
 
   -- the course after an act, where each statement of a loop's body is replaced by what it makes of
-  -- a course
+  -- a course; an act that is none of the six kinds listed first leaves the course unchanged
   abbrev pub act_step : World F → Act-F F OfAct OfStatement → OfAct
   act_step world (Act-F.Assign target condition right_at (Value right)) at binding course =
       with_evaluated (after_assignment number_of limit course.state at binding (target_of target) (option_map tree_of condition) right_at (tree_of right)) (in_state course) course
@@ -182,12 +188,13 @@ module _ {F : Type 0} (number_of : F → Number) (limit : ℕ) where
   abbrev pub of_statement : World F → Stmt F → OfStatement
   of_statement world = fold-Stmt F OfAct OfStatement (act_step world) statement_step
 
-  -- the course of statements that begin in this state, with these answers for their solves
+  -- the course after these statements, which begin in `state` and have `answers` for their solves
   abbrev pub run_from : World F → State → List (Answer Number) → List (Stmt F) → Course
   run_from world state answers statements =
       in_sequence (map (of_statement world) statements) [] (record { state = state; events = []; left = answers; taken = 0; halted = None })
 
--- the event that a halted run shows last: the fault, if one stopped it
+-- the event that a run shows last, by why it halted, as a list of one: the fault that stopped it;
+-- empty if no fault did
 abbrev pub last_event : Option Halt → List Event
 last_event (Some (stopped fault)) = stops fault ∷ []
 last_event halt = []

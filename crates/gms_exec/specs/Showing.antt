@@ -21,11 +21,12 @@ use Rattle.gms_eval.specs.Faults.{Answer, nothing, ◌and_then◌}
 use Rattle.gms_eval.specs.References.{plain_value, lower_value, upper_value}
 use Rattle.gms_event.specs.Events.{Shown}
 
--- a status as a value; no status is above 127, and integers up to that fit in each field
+-- the number of a status as a value. It is capped at 127: no status is above that, and each type of
+-- numbers that the project calculates with has all integers up to 127
 abbrev pub status_shown : ℕ → Extended
 status_shown status = number (whole (pos (min status 127)))
 
--- the value that is shown of a name with this suffix at a tuple
+-- the value that is shown of a name with this suffix at a tuple; 0 for `Fx`
 abbrev pub value_shown : State → ℕ → Suffix → List ℕ → Extended
 value_shown state name suffix.None t = plain_value state name (symbol_of state name).content t
 value_shown state name suffix.Lo t = lower_value (attributes_of state name t).lower
@@ -58,8 +59,9 @@ abbrev pub is_indexed : State → ℕ → Bool
 is_indexed state name = not (length (symbol_of state name).domain == 0)
 
 -- The tuples at which a name is shown in a program with `labels` labels: for a bound all elements
--- of its domain, or the fault DomainSize if these are more than 16,777,216; for a name without
--- positions the empty tuple; otherwise the tuples with data.
+-- of its domain, or the fault DomainSize, with `binding`, if these are more than 16,777,216; for a
+-- name without positions the empty tuple; otherwise the tuples with data: the members of a set, or
+-- those at which the name keeps an entry.
 abbrev pub tuples_looked_at : ℕ → State → Pairs → Named → Suffix → Answer (List (List ℕ))
 tuples_looked_at labels state binding named suffix =
     if is_bound suffix then sized named.at binding (elements_at labels state (symbol_of state named.name).domain) else
@@ -71,7 +73,8 @@ abbrev pub entries_shown : State → ℕ → Suffix → List (List ℕ) → List
 entries_shown state name suffix tuples =
     filter (λ entry. if is_indexed state name then is_so entry.1 else true) (map (λ t. (t, value_shown state name suffix t)) tuples)
 
--- what is shown of an item in a program with `labels` labels, or the fault DomainSize
+-- what is shown of an item, a text or a name with a suffix, in a program with `labels` labels; or
+-- the fault DomainSize, with `binding`
 abbrev pub shown_of : ℕ → State → Pairs → Show → Answer Shown
 shown_of labels state binding (show.Text word) =
     Ok (record { text = word.text; name = None; kind = Undeclared; suffix = suffix.None; indexed = not true; entries = []; decimals = state.settings.decimals })
@@ -86,6 +89,7 @@ shown_of labels state binding (show.Symbol named suffix) =
       decimals = state.settings.decimals;
     })
 
--- what is shown of the items, in order, in a program with `labels` labels; or the first fault
+-- what is shown of the items, in order, in a program with `labels` labels; or the first fault,
+-- with `binding`
 abbrev pub all_shown : ℕ → State → Pairs → List Show → Answer (List Shown)
 all_shown labels state binding items = in_order (map (shown_of labels state binding) items)

@@ -11,7 +11,7 @@ use Rattle.lp_core.specs.declared.program.Column.{Column}
 use Rattle.lp_core.specs.declared.program.Row.{Row}
 use Rattle.lp_core.specs.declared.program.Lp.{Lp}
 use Rattle.lp_core.specs.declared.answer.End.{End}
-use Rattle.lp_core.specs.declared.answer.End.TheVariants.{Optimal, Infeasible, Unbounded, Interrupted, Refused}
+use Rattle.lp_core.specs.declared.answer.End.TheVariants.{Optimal, Unbounded, Interrupted}
 use Rattle.lp_form.specs.declared.key.Key.{Key}
 
 -- the number of the model status and that of the solver status after a solve with this end
@@ -40,16 +40,17 @@ points [] levels marginals = []
 points (key ∷ keys) levels marginals =
     record { key = key; level = first_or_zero levels; marginal = first_or_zero marginals } ∷ points keys (after_first levels) (after_first marginals)
 
--- the elements of the columns, in order
+-- the elements of the columns of a linear program, in order
 abbrev pub keys_of_columns : Lp Number → List Key
 keys_of_columns lp = map (λ (column : Column Number). column.key) lp.columns
 
--- the elements of the rows, in order
+-- the elements of the rows of a linear program, in order
 abbrev pub row_keys : Lp Number → List Key
 row_keys lp = map (λ (row : Row Number). row.key) lp.rows
 
--- what an end writes: levels and marginals of all columns and rows if it is optimal, their levels
--- with marginals 0 if it has a feasible point that is not optimal, and otherwise nothing
+-- the elements with the levels and marginals that an end writes: all columns and rows with both if
+-- it is optimal, all with their levels and marginals 0 if it has a feasible point that is not
+-- optimal, and otherwise none
 abbrev pub points_of : Lp Number → End Number → List Point
 points_of lp (Optimal levels row_levels duals reduced) = points (keys_of_columns lp) levels reduced ++ points (row_keys lp) row_levels duals
 points_of lp (Unbounded levels row_levels ray) = points (keys_of_columns lp) levels [] ++ points (row_keys lp) row_levels []

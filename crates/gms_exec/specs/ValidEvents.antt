@@ -14,8 +14,9 @@ use Rattle.lp_core.specs.WellFormed.{IsWellFormed}
 
 module _ {F : Type 0} (value : F → Number) (limit : ℕ) (rules : List SolverRule) (answers : List (Answer F)) where
   -- A shown solve has a well-formed linear program, and the answer at the index `place` in the list
-  -- of answers is one of this program, by the rule of the solver that the settings of the solve
-  -- choose.
+  -- `answers` is one of this program: under the limit of pivots, `iterlim`, of the solve's
+  -- settings, and by the rule for the choice of pivots of the solver that they choose. `rules` has
+  -- the rule of each solver, and `limit` is the limit of the size of numbers.
   pub record IsValidSolve (lp : Lp F) (place : ℕ) (settings : Settings) : Type 0 where
     pub formed : IsWellFormed value lp
     pub given : Answer F
@@ -24,8 +25,8 @@ module _ {F : Type 0} (value : F → Number) (limit : ℕ) (rules : List SolverR
     pub chosen : slice_get rules settings.solver ≡ Some rule
     pub is_answer : IsAnswerUnder value limit lp settings.iterlim rule given
 
-  -- each item that a display or an abort shows has at most 8 decimals, and a solve is valid; any
-  -- fault is valid
+  -- the event is valid: each item that a display or an abort shows has at most 8 decimals, a solve
+  -- is as `IsValidSolve` states, and any fault is valid
   abbrev pub IsValidEvent : Event F → Type 0
   IsValidEvent (event.Display line items) = All (λ (item : Shown F). item.decimals ≤ 8) items
   IsValidEvent (event.Abort line items) = All (λ (item : Shown F). item.decimals ≤ 8) items

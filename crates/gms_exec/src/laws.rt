@@ -26,8 +26,9 @@ use gq_field::ExactField;
 
 /// What is read after an assignment of values or membership to elements of one name. Let each
 /// element to which something is assigned have as many labels as the name has positions. Then each
-/// element of the name has the value, membership or attribute that was assigned to it, or the old
-/// one if nothing was assigned to it. Other names and the settings stay as they were.
+/// element of the name has the value, membership or attribute that was last assigned to it, or the
+/// old one if nothing was assigned to it. The settings stay as they were, and so does each name of
+/// another symbol; an alias is a name of its set.
 pub fn assignment_laws()
     ensures values { (state : State) (name : ℕ) (all : AllGiven) (entries : Entries Extended) (t : List ℕ) →
         base_of state name < length state.symbols →
@@ -66,11 +67,12 @@ pub fn once_laws<F: ExactField>()
 
 /// What is read after a solve whose columns and rows are elements of the state. After an optimum,
 /// the element of a column has the column's level, and as marginal its reduced cost; the element of
-/// a row has the row's level, and as marginal its dual value. After an end with a feasible point
-/// that is not optimal, these elements have their levels, and marginals 0. After any other end
-/// levels and marginals stay. The model has the two statuses of the end. All other elements and
-/// names stay as they were, and so do the settings (GAMS User's Guide, "Model and Solve
-/// Statements").
+/// a row has the row's level, and as marginal its dual value. After an unbounded end, or one that
+/// was interrupted in phase 2, these elements have their levels, and marginals 0. After any other
+/// end (infeasible, interrupted before phase 2, or a number beyond the field's limit) levels and
+/// marginals stay. The model has the two statuses of the end, its `modelstat` and its `solvestat`.
+/// All other elements and names stay as they were, and so do the settings (GAMS User's Guide,
+/// "Model and Solve Statements").
 pub fn solve_laws()
     ensures optimal_column { (state : State) (model : ℕ) (lp : Lp Number) (levels row_levels duals reduced : List Number) (j : ℕ) (key : Key) (x d : Number) →
         AreElements state (program_elements lp) →

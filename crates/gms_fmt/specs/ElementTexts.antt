@@ -12,16 +12,18 @@ joined_by between [] = []
 joined_by between (text ∷ []) = text
 joined_by between (text ∷ next ∷ texts) = text ++ between ++ joined_by between (next ∷ texts)
 
--- the labels of a tuple, given by their numbers, with dots between them: `a.b`
+-- the labels of a tuple with dots between them: `a.b`. The tuple has the number of each label in
+-- the table `labels`
 abbrev pub dotted_text : List (List ℕ) → List ℕ → List ℕ
 dotted_text labels t = joined_by (codes ".") (map (label_in_table labels) t)
 
--- the labels of a tuple, given by their numbers, in parentheses: `(a,b)`; empty if there are none
+-- the labels of a tuple in parentheses: `(a,b)`; empty if there are none. The tuple has the number
+-- of each label in the table `labels`
 abbrev pub in_parentheses : List (List ℕ) → List ℕ → List ℕ
 in_parentheses labels [] = []
 in_parentheses labels (label ∷ t) = codes "(" ++ joined_by (codes ",") (map (label_in_table labels) (label ∷ t)) ++ codes ")"
 
--- the text of an element, given by the numbers of a name and of the labels of a tuple: `x` or
--- `x(a,b)`
+-- the text of an element: `x` or `x(a,b)`. Its name is given by the number in the table `names`,
+-- and each label of its tuple by the number in the table `labels`
 abbrev pub element_text : List (List ℕ) → List (List ℕ) → ℕ → List ℕ → List ℕ
 element_text names labels name t = label_in_table names name ++ in_parentheses labels t

@@ -1,5 +1,5 @@
 -- The text of the model, piece by piece as it is written.
-use Rattle.std.proofs.Common.{◌≡◌, List, [], ◌∷◌, ◌++◌, ℕ, refl, sym, ap, ◌∙◌, append_assoc}
+use Rattle.std.proofs.Common.{◌≡◌, List, [], ◌∷◌, ◌++◌, ℕ, sym, ap, ◌∙◌, append_assoc}
 
 -- the two lines of the sets, which are written at once
 pub sets-written : (plants markets between : List ℕ) → plants ++ 47 ∷ 59 ∷ 10 ∷ (between ++ (markets ++ 47 ∷ 59 ∷ 10 ∷ [])) ≡ ((plants ++ 47 ∷ 59 ∷ []) ++ 10 ∷ []) ++ (((between ++ markets) ++ 47 ∷ 59 ∷ []) ++ 10 ∷ [])

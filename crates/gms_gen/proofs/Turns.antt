@@ -1,5 +1,5 @@
 -- One turn of a loop: one number drawn, one more line.
-use Rattle.std.proofs.Common.{◌≡◌, ℕ, suc, ◌+◌, List, [], ◌∷◌, ◌++◌, refl, sym, ap, ◌∙◌, append_assoc}
+use Rattle.std.proofs.Common.{◌≡◌, ℕ, suc, ◌+◌, List, [], ◌∷◌, ◌++◌, sym, ap, ◌∙◌, append_assoc}
 use Rattle.std.specs.Prelude.{decimal}
 use Rattle.gms_gen.specs.Generator.{next_state, seed_after, drawn_by, drawn, texts_below, sum_below, datum}
 

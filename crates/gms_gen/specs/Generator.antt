@@ -2,7 +2,7 @@
 -- with demands, supplies and costs from a sequence of draws. The sequence is a linear congruential
 -- generator (Knuth, "The Art of Computer Programming", volume 2, section 3.2.1); the model is the
 -- transport model of the GAMS User's Guide, "A GAMS Tutorial by Richard E. Rosenthal".
-use Rattle.std.specs.Prelude.{ℕ, zero, suc, ◌+◌, ◌*◌, ◌/◌, ◌%◌, ◌^◌, List, [], ◌∷◌, ◌++◌, codes, decimal}
+use Rattle.std.specs.Prelude.{ℕ, zero, suc, ◌+◌, ◌*◌, ◌/◌, ◌%◌, ◌^◌, List, [], ◌++◌, codes, decimal}
 
 -- ---- draws
 
@@ -14,16 +14,17 @@ first_seed seed = seed % 2 ^ 31
 abbrev pub next_state : ℕ → ℕ
 next_state state = (1103515245 * state + 12345) % 2 ^ 31
 
--- the number of the pseudo-random sequence of a seed that is reached after `n` draws
+-- the number that the pseudo-random sequence of a seed reaches after `n` draws
 abbrev pub seed_after : ℕ → ℕ → ℕ
 seed_after seed zero = first_seed seed
 seed_after seed (suc n) = next_state (seed_after seed n)
 
--- the draw that a number of the sequence gives: a number from 0 to below `below`
+-- the draw that the number `state` of a sequence gives: at least 0 and less than `below`
 abbrev pub drawn_by : ℕ → ℕ → ℕ
 drawn_by state below = (state / 65536) % below
 
--- the draw with the seed `seed` after `n` other draws: a number from 0 to below `below`
+-- the draw with the seed `seed` after `n` other draws: a number that is at least 0 and less than
+-- `below`
 abbrev pub drawn : ℕ → ℕ → ℕ → ℕ
 drawn seed n below = drawn_by (seed_after seed (suc n)) below
 
@@ -61,11 +62,12 @@ module _ (seed plants markets : ℕ) where
   abbrev pub total_demand : ℕ
   total_demand = sum_below markets demand
 
-  -- the supply of a plant, counted from 0: its share of the total demand, and from 1 to 10 more
+  -- the supply of a plant, counted from 0: the total demand divided by the number of plants,
+  -- rounded down, plus a draw from 1 to 10
   abbrev pub supply : ℕ → ℕ
   supply plant = total_demand / plants + 1 + drawn seed (markets + plant) 10
 
-  -- the cost of the route from a plant to a market: a draw from 1 to 50
+  -- the cost of the route from a plant to a market, both counted from 0: a draw from 1 to 50
   abbrev pub cost : ℕ → ℕ → ℕ
   cost plant market = 1 + drawn seed (markets + plants + plant * markets + market) 50
 
@@ -79,14 +81,14 @@ module _ (seed plants markets : ℕ) where
   abbrev pub supply_lines : List ℕ
   supply_lines = texts_below plants (λ plant. datum (element (codes "p") plant) (supply plant))
 
-  -- the lines with the costs of the routes from a plant
+  -- the lines with the costs of the routes from a plant to each market
   abbrev pub costs_from : ℕ → List ℕ
   costs_from plant = texts_below markets (λ market. datum (element (codes "p") plant ++ codes "." ++ element (codes "m") market) (cost plant market))
 
   abbrev pub transport_cost_lines : List ℕ
   transport_cost_lines = texts_below plants costs_from
 
-  -- the lines of the variables, the equations, the model and its solve
+  -- the lines of the variables, the equations, the model, the options and the solve
   abbrev pub model_lines : List ℕ
   model_lines =
       text_line (codes "positive variable x(p,m); variable z;") ++ text_line (codes "equations cost, supply(p), demand(m);") ++ text_line (codes "cost.. z =e= sum((p,m), c(p,m)*x(p,m));") ++ text_line (codes "supply(p).. sum(m, x(p,m)) =l= a(p);") ++ text_line (codes "demand(m).. sum(p, x(p,m)) =g= b(m);") ++ text_line (codes "model t /all/;") ++ text_line (codes "option iterlim = 100000, limrow = 0, limcol = 0;") ++ text_line (codes "solve t using lp minimizing z;")

@@ -39,11 +39,13 @@ pub record MemoryState : Type 0 where
   -- how many faults of writing were counted
   pub write_faults : ℕ
 
--- the encoding (`Coded`) of a list of bytes, by that of numbers
+-- the one-to-one encoding (`Coded`) of a list of bytes as a ghost value, that is a tree of numbers;
+-- it is made from the encoding of numbers
 abbrev pub bytes_code : Coded (List ℕ)
 bytes_code = coded_list coded_ℕ
 
--- the encoding (`Coded`) of a state, by that of nested pairs of its fields
+-- the one-to-one encoding (`Coded`) of a state as a ghost value, that is a tree of numbers; it is
+-- made from nested pairs of the state's fields
 abbrev pub memory_code : Coded MemoryState
 memory_code =
     code_by (Files × (List ℕ × (Option ℕ × (ℕ × (List ℕ × (List ℕ × (List ℕ × (List ℕ × (List (List ℕ) × (List (List ℕ × List ℕ) × (Bool × (Bool × (ℕ × ℕ)))))))))))))
@@ -72,7 +74,7 @@ memory_code =
 abbrev pub file_of : String Global × Vec ℕ Global → List ℕ × List ℕ
 file_of file = (string_bytes file.0, file.1.items)
 
--- the files of a list; of several with one name the first counts
+-- the finite map of a list of files; of several files with one name it has only the first
 abbrev pub files_of : List (String Global × Vec ℕ Global) → Files
 files_of files = finite.from_entries (map file_of files)
 
@@ -99,12 +101,14 @@ at_start files failing = record {
 abbrev pub in_pieces_of : ℕ → MemoryState → MemoryState
 in_pieces_of most m = record m { most = Some most }
 
--- how many of `count` bytes one call reads, writes or prints
+-- how many of `count` bytes one call reads, writes or prints: all, but no more than the bound of
+-- the host, if it has one
 abbrev pub piece : MemoryState → ℕ → ℕ
 piece m count = elim m.most [ None ↦ count | Some most ↦ min count most ]
 
--- what a host over files in memory exposes: all of its state; it counts faults precisely, and it is
--- reliable exactly if no call is to fail
+-- What a host over files in memory exposes: each field of the outside state, so none is None, and
+-- its counts of faults. It is reliable exactly if `failing`, the numbers of the calls that are to
+-- fail, is empty. It is precise: a call counts a fault only if its answer is a fault.
 abbrev pub memory_meaning : MemoryState → Meaning
 memory_meaning m = record {
   outside = record {
@@ -142,46 +146,58 @@ with_read_fault m = record m { read_faults = one_more m.read_faults }
 abbrev pub with_write_fault : MemoryState → MemoryState
 with_write_fault m = record m { write_faults = one_more m.write_faults }
 
--- the host after an `open_in` of this name with this answer: on success the file's bytes are the
--- input, which is open, and the name is noted; else no input is open
+-- the host after an `open_in` of this name with this answer: on success the bytes of the file (none
+-- if no file has the name) are the input, which is open, and the name is appended to `asked`; else
+-- no input is open. The number of the next call rises by one, and after a `Fault` the count of
+-- faults of reading too, but neither above 64 bits. `Memory`, out of memory, is not counted.
 abbrev pub after_open_in : MemoryState → List ℕ → Result (Unit {0}) Failed → MemoryState
 after_open_in m name (Ok _) = record (with_call_numbered m) { input = unwrap_or (finite.get m.files name) []; asked = m.asked ++ name ∷ []; reading = true }
 after_open_in m name (Err Fault) = record (with_read_fault (with_call_numbered m)) { reading = false }
 after_open_in m name (Err Memory) = record (with_call_numbered m) { reading = false }
 
--- the host after a `read` with this answer: the bytes that were read are removed from the input
+-- the host after a `read` with this answer: on success the `count` bytes that were read are removed
+-- from the input. The number of the next call rises by one, and after a `Fault` the count of faults
+-- of reading too, but neither above 64 bits. `Memory`, out of memory, is not counted.
 abbrev pub after_read : MemoryState → Result ℕ Failed → MemoryState
 after_read m (Ok count) = record (with_call_numbered m) { input = drop count m.input }
 after_read m (Err Fault) = with_read_fault (with_call_numbered m)
 after_read m (Err Memory) = with_call_numbered m
 
--- the host after its output became empty and was closed
+-- the host after its output became empty, and is not open; nothing is appended to `kept`
 abbrev pub with_empty_output : MemoryState → MemoryState
 with_empty_output m = record m { output = []; writing = false }
 
--- the host after an `open_out` of this name with this answer: the output is empty; on success it
--- has the name, which is noted, and is open, else none is open
+-- the host after an `open_out` of this name with this answer: the output is empty; on success it is
+-- open and has the name, which is appended to `asked`, else no output is open. The number of the
+-- next call rises by one, and after a `Fault` the count of faults of writing too, but neither above
+-- 64 bits. `Memory`, out of memory, is not counted.
 abbrev pub after_open_out : MemoryState → List ℕ → Result (Unit {0}) Failed → MemoryState
 after_open_out m name (Ok _) = record (with_call_numbered m) { named = name; output = []; asked = m.asked ++ name ∷ []; writing = true }
 after_open_out m name (Err Fault) = with_empty_output (with_write_fault (with_call_numbered m))
 after_open_out m name (Err Memory) = with_empty_output (with_call_numbered m)
 
 -- the host after a `write` of these bytes with this answer: on success the first `count` of them
--- are appended to the output
+-- are appended to the output. The number of the next call rises by one, and after a `Fault` the
+-- count of faults of writing too, but neither above 64 bits. `Memory`, out of memory, is not
+-- counted.
 abbrev pub after_write : MemoryState → List ℕ → Result ℕ Failed → MemoryState
 after_write m bytes (Ok count) = record (with_call_numbered m) { output = m.output ++ take count bytes }
 after_write m bytes (Err Fault) = with_write_fault (with_call_numbered m)
 after_write m bytes (Err Memory) = with_call_numbered m
 
 -- the host after a `close_out` with this answer: no output is open; on success the one that was
--- open is recorded with its name
+-- open is appended to `kept` with its name. The number of the next call rises by one, and after a
+-- `Fault` the count of faults of writing too, but neither above 64 bits. `Memory`, out of memory,
+-- is not counted.
 abbrev pub after_close_out : MemoryState → Result (Unit {0}) Failed → MemoryState
 after_close_out m (Ok _) = record (with_call_numbered m) { kept = m.kept ++ (m.named, m.output) ∷ []; writing = false }
 after_close_out m (Err Fault) = record (with_write_fault (with_call_numbered m)) { writing = false }
 after_close_out m (Err Memory) = record (with_call_numbered m) { writing = false }
 
 -- the host after a `say` of these bytes with this answer: on success the first `count` of them are
--- appended to standard output
+-- appended to standard output. The number of the next call rises by one, and after a `Fault` the
+-- count of faults of writing too, but neither above 64 bits. `Memory`, out of memory, is not
+-- counted.
 abbrev pub after_say : MemoryState → List ℕ → Result ℕ Failed → MemoryState
 after_say m bytes (Ok count) = record (with_call_numbered m) { said = m.said ++ take count bytes }
 after_say m bytes (Err Fault) = with_write_fault (with_call_numbered m)

@@ -20,12 +20,12 @@ with_output o bytes = record o { output = told_with o.output bytes }
 abbrev pub with_said : Outside → List ℕ → Outside
 with_said o bytes = record o { said = told_with o.said bytes }
 
--- the outside state after these names were noted as requested
+-- the outside state after these names were appended to `asked`, the names that were requested
 abbrev pub with_asked : Outside → List (List ℕ) → Outside
 with_asked o names = record o { asked = told_with o.asked names }
 
--- the outside state after the output became empty, and was opened if `open_now` is true, else
--- closed
+-- the outside state after the output became empty, and is open exactly if `open_now` is true;
+-- nothing is appended to `kept`
 abbrev pub with_emptied : Outside → Bool → Outside
 with_emptied o open_now = record o { output = option_map (λ _. []) o.output; writing = open_now }
 
@@ -35,11 +35,12 @@ abbrev pub with_opened : Outside → List ℕ → Outside
 with_opened o name =
     record (with_emptied o true) { named = option_map (λ _. name) o.named; asked = told_with o.asked (name ∷ []) }
 
--- the name and the bytes of the output, as they are recorded when it is closed
+-- the name and the bytes of the output, as they are recorded when it is closed; each is empty if
+-- the host does not expose it
 abbrev pub closing : Outside → List ℕ × List ℕ
 closing o = (unwrap_or o.named [], unwrap_or o.output [])
 
--- the outside state after the output was closed, and recorded with its name
+-- the outside state after the output was closed, and appended to `kept` with its name
 abbrev pub with_kept : Outside → Outside
 with_kept o = record o { kept = told_with o.kept (closing o ∷ []); writing = false }
 
@@ -60,7 +61,7 @@ IsInput o name input =
     (is_some input ≡ is_some o.input) × IfSome o.files (λ files. IsSome (map.get files name) × (input ≡ map.get files name))
 
 -- The effect of an `open_in`. On success an input is open that gives the bytes of the file, and the
--- name is noted as requested. On failure no input is open, and the name may be noted.
+-- name is appended to `asked`. On failure no input is open, and the name may be appended.
 abbrev pub OpensInput : Result (Unit {0}) Failed → Outside → Outside → List ℕ → Type 0
 OpensInput (Ok _) old new name =
     (input : Option (List ℕ)) × IsInput old name input × (new ≡ record (with_asked old (name ∷ [])) { input = input; reading = true })
@@ -74,15 +75,16 @@ pub record GivesFirst (bytes : List ℕ) (count : ℕ) (buffer : List ℕ) : Typ
   -- the count is 0 exactly at the end of the input
   pub end : (count ≡ 0) ↔ (bytes ≡ [])
 
--- The effect of a `read`. On success the first bytes of the input are put at the beginning of the
--- buffer and removed from the input. On failure the outside state is unchanged.
+-- The effect of a `read`. On success the first `count` bytes of the input are put at the beginning
+-- of the buffer and removed from the input. On failure the outside state is unchanged.
 abbrev pub ReadsBytes : Result ℕ Failed → Outside → Outside → List ℕ → Type 0
 ReadsBytes (Ok count) old new buffer =
     IfSome old.input (λ bytes. GivesFirst bytes count buffer) × (new ≡ record old { input = option_map (λ bytes. drop count bytes) old.input })
 ReadsBytes (Err _) old new buffer = new ≡ old
 
 -- The effect of an `open_out`. On success an empty output with this name is open, and the name is
--- noted as requested. On failure the output is empty too, but not open, and the name may be noted.
+-- appended to `asked`. On failure the output is empty too, but not open, and the name may be
+-- appended.
 abbrev pub OpensOutput : Result (Unit {0}) Failed → Outside → Outside → List ℕ → Type 0
 OpensOutput (Ok _) old new name = new ≡ with_opened old name
 OpensOutput (Err _) old new name =
@@ -94,8 +96,8 @@ abbrev pub Writes : Result ℕ Failed → Outside → Outside → List ℕ → T
 Writes (Ok count) old new bytes = new ≡ with_output old (take count bytes)
 Writes (Err _) old new bytes = new ≡ old
 
--- The effect of a `close_out`: no output is open. On success the one that was open is recorded with
--- its name, on failure it is not.
+-- The effect of a `close_out`: no output is open. On success the one that was open is appended to
+-- `kept` with its name, on failure it is not.
 abbrev pub ClosesOutput : Result (Unit {0}) Failed → Outside → Outside → Type 0
 ClosesOutput (Ok _) old new = new ≡ with_kept old
 ClosesOutput (Err _) old new = new ≡ record old { writing = false }
@@ -109,8 +111,9 @@ Says (Err _) old new bytes = new ≡ old
 -- ---- the counts of faults
 
 -- How a call changes the count of its faults from `old` to `new`: the count never falls, and it
--- rises if the answer is a fault. If the host is precise, it stays when the call succeeds. If the
--- host is sure not to fail, no fault is answered, and the count stays.
+-- rises if the answer is a fault, or may stay at the greatest number of 64 bits. If `precise`
+-- holds, the count stays when the call succeeds. If `sure` holds, the answer is no fault, and the
+-- count stays.
 pub record IsCounted {A : Type 0} (result : Result A Failed) (sure precise : Type 0) (old new : ℕ) : Type 0 where
   pub no_fall : old ≤ new
   pub fault : IsErrOf result Fault → Rose old new
@@ -118,14 +121,16 @@ pub record IsCounted {A : Type 0} (result : Result A Failed) (sure precise : Typ
   pub unfailing : sure → IsErrOf result Fault → ⊥
   pub steady : sure → new ≡ old
 
--- A call that reads counts its faults as faults of reading, and changes no other count. A reliable
--- host is sure not to fail if `there` holds, that is, the requested file exists.
+-- A call that reads counts its faults as faults of reading (`IsCounted`), and changes nothing else
+-- of the counts. If the host is reliable and `there` holds (the requested file exists), the answer
+-- is no fault, and no fault is counted. If the host is precise, a success counts no fault.
 pub record CountsReading {A : Type 0} (result : Result A Failed) (there : Type 0) (old new : Counts) : Type 0 where
   pub rest : new ≡ record old { read_faults = new.read_faults }
   pub own : IsCounted result ((old.reliable ≡ true) × there) (old.precise ≡ true) old.read_faults new.read_faults
 
--- A call that writes counts its faults as faults of writing, and changes no other count. A reliable
--- host is sure not to fail.
+-- A call that writes counts its faults as faults of writing (`IsCounted`), and changes nothing else
+-- of the counts. If the host is reliable, the answer is no fault, and no fault is counted. If the
+-- host is precise, a success counts no fault.
 pub record CountsWriting {A : Type 0} (result : Result A Failed) (old new : Counts) : Type 0 where
   pub rest : new ≡ record old { write_faults = new.write_faults }
   pub own : IsCounted result (old.reliable ≡ true) (old.precise ≡ true) old.write_faults new.write_faults

@@ -21,9 +21,10 @@ abbrev pub WritesAll : {A : Type 0} → Result A Failed → Outside → Outside 
 WritesAll (Ok _) old new expected = new ≡ with_output old expected
 WritesAll (Err _) old new expected = WritesPrefix old new expected
 
--- The effect of putting bytes through a spool, where `expected` is what was pending followed by the
--- new bytes. On success a prefix of this is written, and the remaining bytes are `pending`. On
--- failure a prefix of it is written, and nothing is pending.
+-- The effect of putting bytes through a spool, a buffer of bytes that are still to be written.
+-- `expected` is what was pending followed by the new bytes. On success a prefix of `expected` is
+-- written, and the remaining bytes are `pending`. On failure a prefix of it is written, and nothing
+-- is pending.
 abbrev pub PutsThrough : {A : Type 0} → Result A Failed → Outside → Outside → List ℕ → List ℕ → Type 0
 PutsThrough (Ok _) old new expected pending = Passes old new expected pending
 PutsThrough (Err _) old new expected pending = WritesPrefix old new expected × (pending ≡ [])

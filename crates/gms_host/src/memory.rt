@@ -89,7 +89,7 @@ impl MemHost {
     }
 
     /// A host as `new` makes it, except that each call reads, writes or prints at most `most`
-    /// bytes.
+    /// bytes, a number above 0.
     pub fn in_pieces(
         alloc: Global,
         files: Vec<(String, Vec<u8>)>,
@@ -127,7 +127,8 @@ impl MemHost {
         self.kept.as_slice()
     }
 
-    /// The bytes that were written to the output since it was opened.
+    /// The bytes that were written to the output since the last call of `open_out`, which empties
+    /// it even if the opening fails. They remain after the output is closed.
     pub fn output(&self) -> &[u8]
         ensures { result.now ≡ self.now.output }
     {

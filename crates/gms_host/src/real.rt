@@ -17,8 +17,9 @@ const TRIES: u32 = 64;
 /// A host over real files and standard output.
 ///
 /// It exposes no files, no names and no bytes, and promises neither to be reliable nor to be
-/// precise. Each error of std except out of memory is counted as a fault, and so is a write of no
-/// bytes. A call repeats a read or a write that was interrupted, and makes at most 64 tries.
+/// precise. Each error of std is counted as a fault, and so is a write for which std returns the
+/// count 0; but a call that runs out of memory counts nothing. A call repeats a read or a write
+/// that was interrupted, and makes at most 64 tries.
 #[derive(Drop)]
 pub struct RealHost<R: Files> {
     runtime: R,

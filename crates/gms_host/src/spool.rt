@@ -61,8 +61,8 @@ impl Spool {
         })
     }
 
-    /// Appends a text to the pending bytes, and writes these to the host whenever the buffer is
-    /// full and more of the text follows.
+    /// Appends a text to the pending bytes, and writes these to the host, of which an output must
+    /// be open, whenever the buffer is full and more of the text follows.
     ///
     /// On success, the output followed by the pending bytes is what these two were before, followed
     /// by the text. The error is that of a `write` of the host; it is `Fault` only if a fault of
@@ -111,7 +111,8 @@ impl Spool {
         };
     }
 
-    /// Writes all pending bytes to the host. Afterwards nothing is pending, even after an error.
+    /// Writes all pending bytes to the host, of which an output must be open. Afterwards nothing is
+    /// pending, even after an error.
     ///
     /// On success the bytes are appended to the output, and after an error only a prefix of them.
     /// The error is that of a `write` of the host; it is `Fault` only if a fault of writing was

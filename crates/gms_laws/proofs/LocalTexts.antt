@@ -8,7 +8,7 @@ use Rattle.gq_extended.specs.declared.extended.Ext.{Ext}
 use Rattle.gq_extended.specs.declared.extended.Ext.TheVariants.{Number, PlusInf, Na}
 use Rattle.gms_ast.specs.declared.declaration.DeclKind.TheVariants as kind
 use Rattle.gms_ast.specs.declared.declaration.Item.{Item}
-use Rattle.gms_ast.specs.StatementTrees.{Act, declares, displays, Statements, no_statement, statement, followed_by}
+use Rattle.gms_ast.specs.StatementTrees.{Act, declares, Statements, no_statement, statement, followed_by}
 use Rattle.gms_lex.specs.declared.token.Token.{Token}
 use Rattle.gms_lex.specs.TokenTexts.{token_text, unquoted}
 use Rattle.gms_grammar.specs.declared.terminal.Terminal.{Terminal}

@@ -1,42 +1,35 @@
 -- Where variables and sets occur in a program without errors.
-use Rattle.std.proofs.Common.{◌≡◌, ◌⊎◌, ◌∙◌, ◌&&◌, ℕ, Bool, true, false, not, List, [], ◌∷◌, ◌++◌, Option, Some, None, option_map, Vec, if◌then◌else◌, inl, inr, refl, sym, ap, subst, true≢false}
+use Rattle.std.proofs.Common.{◌≡◌, ◌∙◌, ◌&&◌, ℕ, Bool, true, false, not, List, [], ◌∷◌, ◌++◌, Option, Some, None, option_map, if◌then◌else◌, refl, sym, ap, subst, true≢false}
 use Rattle.std.specs.Prelude.{flat_map}
-use Rattle.std.specs.declared.alloc.Global.{Global}
 use Rattle.std.specs.List.{All}
 use Rattle.std.proofs.lemmas.List.Elements.{All-cons, All-nil}
 use Rattle.gq_number.specs.Number.{Number}
 use Rattle.gms_labels.specs.declared.place.Place.{Place}
-use Rattle.gms_ast.specs.declared.expression.Control.{Control as ControlNode}
 use Rattle.gms_ast.specs.declared.expression.Expr.{Expr}
-use Rattle.gms_ast.specs.declared.expression.Index.{Index}
 use Rattle.gms_ast.specs.declared.expression.Suffix.TheVariants as suffix
-use Rattle.gms_ast.specs.declared.program.Act.{Act, Loop}
-use Rattle.gms_ast.specs.declared.program.Act.TheVariants.{Abort, Assign, Define}
+use Rattle.gms_ast.specs.declared.program.Act.{Act}
+use Rattle.gms_ast.specs.declared.program.Act.TheVariants.{Assign}
 use Rattle.gms_ast.specs.declared.program.Program.{Program}
 use Rattle.gms_ast.specs.declared.program.Right.TheVariants.{Value}
-use Rattle.gms_ast.specs.declared.program.Show.{Show}
-use Rattle.gms_ast.specs.declared.program.Side.{Side}
 use Rattle.gms_ast.specs.declared.program.Stmt.{Stmt}
 use Rattle.gms_ast.specs.declared.program.Target.{Target}
-use Rattle.gms_ast.specs.declared.word.Named.{Named}
-use Rattle.gms_ast.specs.Trees.{Control, Indices, Mark, Parts, Tree, label, lagged, over_where, part, reference, set}
+use Rattle.gms_ast.specs.Trees.{Control, Indices, Parts, Tree, over_where, reference}
 use Rattle.gms_ast.specs.TreeView.{control_tree, tree_of}
 use Rattle.gms_store.specs.declared.kind.SymbolKind.{SymbolKind}
 use Rattle.gms_store.specs.declared.kind.SymbolKind.TheVariants as kind
-use Rattle.gms_store.specs.State.{Content, State, alias_of, equation_of, model_with, parameter_of, set_of, symbol_at, undeclared, variable_of}
-use Rattle.gms_store.specs.Declarations.{is_set, kind_in}
+use Rattle.gms_store.specs.State.{Content, alias_of, equation_of, model_with, parameter_of, set_of, symbol_at, undeclared, variable_of}
+use Rattle.gms_store.specs.Declarations.{kind_in}
 use Rattle.gms_scope.specs.Names.{declared_kind}
 use Rattle.gms_check.specs.declared.contexts.Context.{Context}
 use Rattle.gms_check.specs.declared.error.ErrorKind.TheVariants.{Endogenous}
 use Rattle.gms_check.specs.CompileErrors.{compile_errors, known_after}
-use Rattle.gms_check.specs.LeftSides.{IsNestedIn}
 use Rattle.gms_check.specs.Loaded.{sound}
 use Rattle.gms_check.specs.Names.{is_variable}
 use Rattle.gms_check.specs.Past.{Known}
 use Rattle.gms_check.specs.Contexts.{as_condition, as_denied, as_guarded, as_inner, as_members, as_number, as_part, as_side, may_occur}
 use Rattle.gms_check.specs.InnerStatements.{act_uses}
 use Rattle.gms_check.specs.StatementUses.{index_list, left_uses, right_context, show_uses, statement_uses, with_left}
-use Rattle.gms_check.specs.Uses.{Uses, amount_uses, condition_uses, control_uses, part_uses, place_by_mark, reading, sets_of_control, shift_uses, steps as step_uses, uses}
+use Rattle.gms_check.specs.Uses.{amount_uses, condition_uses, control_uses, part_uses, place_by_mark, reading, sets_of_control, shift_uses, steps as step_uses, uses}
 use Rattle.gms_check.proofs.ActUses.{uses-Abort, uses-Assign, uses-Define, uses-Loop, uses-act}
 use Rattle.gms_check.proofs.LeftAmounts.{program-inner}
 use Rattle.gms_check.proofs.NoErrors.{AreClean, clean-left, clean-right}

@@ -1,6 +1,6 @@
 -- The program of a source, computed.
 use Rattle.std.proofs.lemmas.Bool.{and_from, and_parts}
-use Rattle.std.proofs.Common.{◌≡◌, ℕ, ◌+◌, ◌^◌, ◌≤◌, ◌==◌, ◌&&◌, Bool, true, false, nat_le, List, [], ◌∷◌, ◌++◌, length, map, refl, sym, ap, ap₂, ◌∙◌, subst, arith, eqb-true, length-append}
+use Rattle.std.proofs.Common.{◌≡◌, ℕ, ◌^◌, ◌≤◌, ◌==◌, ◌&&◌, Bool, true, false, nat_le, List, [], ◌∷◌, ◌++◌, length, map, refl, sym, ap, ap₂, ◌∙◌, subst, arith, eqb-true, length-append}
 use Rattle.std.proofs.lemmas.List.{map-append}
 use Rattle.gms_grammar.specs.Lines.{code_text}
 use Rattle.gms_grammar.specs.declared.lexeme.Lexeme.{Lexeme}

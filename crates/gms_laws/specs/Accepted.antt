@@ -8,8 +8,8 @@ use Rattle.gms_parse.specs.Outcomes.{ProgramView, program_view, HasProgram}
 use Rattle.gms_check.specs.CompileErrors.{compile_errors}
 use Rattle.gms_gen.specs.Generator.{generated_model_text}
 
--- A source is accepted with solvers of these names: it has a program, and each stored form of that
--- program has no compile error.
+-- A source is accepted with solvers of these names: it has a program, under the limit `frac_limit`
+-- of the size of numbers, and each stored form of that program has no compile error.
 pub record IsAcceptedSource (solvers : List (List ℕ)) (source : List ℕ) : Type 0 where
   -- the view of the program
   pub view : ProgramView

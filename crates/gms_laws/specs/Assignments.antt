@@ -23,7 +23,7 @@ use Rattle.gms_run_laws.specs.LastStates.{MayBegin}
 use Rattle.gms_run_laws.specs.Reached.{IsReached, IsStatementOf}
 use Rattle.gms_laws.specs.Domains.{HasItsMembers, IsWhereItHolds}
 
--- An execution of an assignment.
+-- An execution of an assignment. `world` has the program and the names of the solvers.
 pub record Execution (F : Type 0) : Type 0 where
   pub world : World F
   pub statement : Stmt F
@@ -47,13 +47,15 @@ module _ {F : Type 0} where
   abbrev pub left_sets : Execution F → List ℕ
   left_sets e = newly_controlled e.binding (left_indices e)
 
-  -- the binding in which also the sets of the left side have labels, those of the element
+  -- the binding in which also the sets of the left side that no loop controls have labels, those of
+  -- the element
   abbrev pub element_binding : Execution F → List ℕ → Pairs
   element_binding e element = controlled e.binding (left_sets e) element
 
 module _ {F : Type 0} (number_of : F → Number) (limit : ℕ) where
   -- The assignment of an accepted program is executed without a fault, from the state `before` to
-  -- `after`, in a run from the program's start or from a save.
+  -- `after`. The execution of statements of the program, in any sequence (`IsReached`), leads to
+  -- `before` from a state in which a run may begin, at the program's start or from a save.
   pub record IsCompleted (e : Execution F) : Type 0 where
     pub accepted : IsAccepted number_of e.world.program
     pub of_program : IsStatementOf e.world.program e.statement
@@ -67,7 +69,8 @@ module _ {F : Type 0} (number_of : F → Number) (limit : ℕ) where
     pub after_is : (of_statement number_of limit e.world e.statement e.binding course).state ≡ e.after
 
   -- The left side takes an element to a tuple: the element has a member of each set of the left
-  -- side, the condition holds for it, and under it the indices have the labels of the tuple.
+  -- side that no loop controls, the condition holds for it, and under it the indices have the
+  -- labels of the tuple.
   pub record TakesTo (e : Execution F) (element tuple : List ℕ) : Type 0 where
     pub members : HasItsMembers e.before (left_sets e) element
     pub holds : IsWhereItHolds number_of limit e.before e.binding (control_over (left_sets e) (option_map tree_of e.condition)) element

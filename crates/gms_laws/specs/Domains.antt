@@ -8,13 +8,13 @@ use Rattle.gms_store.specs.State.{State, members_of}
 use Rattle.gms_eval.specs.Bindings.{Pairs, controlled}
 use Rattle.gms_eval.specs.Holds.{holds}
 
--- the tuple has one label for each set, and that is a member of the set
+-- the tuple has one label for each set, and in this state that label is a member of the set
 abbrev pub HasItsMembers : State → List ℕ → List ℕ → Type 0
 HasItsMembers state sets tuple =
     (length tuple ≡ length sets) × ((i : ℕ) → i < length sets → has (members_of state (slice_index sets i)) (slice_index tuple i ∷ []) ≡ true)
 
--- the condition of a control holds where its sets have the labels of the tuple; a control without a
--- condition holds everywhere
+-- in this state the condition of a control holds where its sets have the labels of the tuple, and
+-- other sets those of `binding`; a control without a condition holds everywhere
 abbrev pub IsWhereItHolds : {F : Type 0} → (F → Number) → ℕ → State → Pairs → Control F → List ℕ → Type 0
 IsWhereItHolds value limit state binding (over sets) tuple = Unit {0}
 IsWhereItHolds value limit state binding (over_where sets condition) tuple =

@@ -17,13 +17,13 @@ use Rattle.lp_core.specs.declared.answer.Answer.{Answer}
 use Rattle.gms_laws.specs.Plans.{Question, IsSo}
 
 module _ {F : Type 0} (number_of : F → Number) (limit : ℕ) (world : World F) (first : State) (statements : List (Stmt F)) (answers : List (Answer F)) where
-  -- the course of the run of the statements with all answers: its state, its events and, if it has
-  -- halted, why
+  -- the course of the run of the statements from the state `first` with all answers: its state, its
+  -- events and, if it has halted, why
   abbrev pub run_with_answers : Course
   run_with_answers = run_from number_of limit world first (map (answer_numbers number_of) answers) statements
 
-  -- the course of the run of the statements with only the answers before the index `place`: it
-  -- halts at the solve that needs the answer of that index
+  -- the course of the run of the statements from the state `first` with only the first `place`
+  -- answers, those of the indices below `place`; a solve that needs a later answer halts it
   abbrev pub run_before : ℕ → Course
   run_before place = run_from number_of limit world first (take place (map (answer_numbers number_of) answers)) statements
 
@@ -56,19 +56,22 @@ module _ {F : Type 0} (number_of : F → Number) (limit : ℕ) (world : World F)
         listed = column_elements solved.lp;
       }
 
-  -- The event of a solve is one of a solve statement of the program, and what its answer states is
-  -- true.
+  -- The event of a solve is one of a solve statement of the program (`IsSolve`), and what the end
+  -- of its answer states of the solve's question, such as that its levels are optimal, is true
+  -- (`IsSo`).
   pub record IsAnsweredRightly (solved : Solved) : Type 0 where
     pub solve : IsSolve solved
     pub answer : Answer F
     pub occurs : slice_get answers solved.answer ≡ Some answer
     pub is_so : IsSo number_of limit (question_of solved solve) (end_numbers number_of answer.end)
 
-  -- if the event is a solve, what its answer states is true
+  -- if the event is a solve, it is one of a solve statement of the program, and what its answer
+  -- states is true (`IsAnsweredRightly`); any other event makes no claim
   abbrev pub AnswerIsSo : Event → Type 0
   AnswerIsSo (solves solved) = IsAnsweredRightly solved
   AnswerIsSo event = Unit {0}
 
-  -- what the answer of each solve of the run states is true
+  -- each solve that the run shows is one of a solve statement of the program, and what its answer
+  -- states is true
   abbrev pub AnswersAreSo : Type 0
   AnswersAreSo = All AnswerIsSo run_with_answers.events

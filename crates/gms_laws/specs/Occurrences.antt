@@ -133,7 +133,8 @@ module _ {F : Type 0} (state : State) where
     right_of_value : (target : Target F) (condition : Option (Expr F)) (right_at : Place) (right : Expr F) →
         act ≡ Assign target condition right_at (Value right) → is_set (symbol_at state target.name).content ≡ false → IsExpressionOf act value_right (tree_of right)
 
--- the state after the declarations, with their data, of the statements `before` of a program
+-- the state after the declarations, with their data, of the statements `before` of a program, each
+-- taken to have no error
 abbrev pub declared_before : {F : Type 0} → (F → Number) → Program F → List (Stmt F) → State
 declared_before value program before = state_after value (length program.names) (sound before)
 
@@ -189,8 +190,8 @@ pub data MayHaveVariable : Role → List ExpressionStep → Type 0 where
   in_side : {steps : List ExpressionStep} → All IsArithmetic steps → MayHaveVariable side_of steps
 
 -- A set may occur at the end of this path in an expression with this role: if the last step is one
--- to a set; alone as a condition; or, by steps within it, on the right side of an assignment to a
--- set.
+-- to a part that may be a set (`IsToSet`); alone as a condition; or on the right side of an
+-- assignment to a set, if each step is one of those of `IsOfMembers`.
 pub data MayHaveSet : Role → List ExpressionStep → Type 0 where
   as_operand : {role : Role} {last : ExpressionStep} (steps : List ExpressionStep) → IsToSet last → MayHaveSet role (steps ++ last ∷ [])
   alone : MayHaveSet condition_of []

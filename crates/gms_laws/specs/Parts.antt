@@ -20,7 +20,7 @@ use Rattle.gms_expressions.specs.Outcomes.{ExpressionState, IsPart}
 abbrev pub Tokens : Type 0
 Tokens = List (Terminal × Token)
 
--- a derivation tree of a part over such tokens
+-- a derivation tree of a part, over tokens that each have their terminal
 abbrev pub Derivation : Type 0
 Derivation = DerivationTree (Terminal × Token)
 
@@ -28,8 +28,9 @@ Derivation = DerivationTree (Terminal × Token)
 abbrev pub EndAlike : ExpressionState → ExpressionState → Tokens → Tokens → Type 0
 EndAlike after later rest others = (after ≡ later) × (rest ≡ others)
 
--- Some prefix of these tokens is a part that the nonterminal `n` derives, read from the state
--- `before`.
+-- Some prefix of these tokens is the part of the nonterminal `n` that is read from the state
+-- `before` (`IsPart`): the longest prefix that begins something n derives, itself derived by n, and
+-- without a faulty token. `limit` is the limit of the size of numbers.
 pub record SomePart (limit : ℕ) (source : List ℕ) (n : Nonterminal) (before : ExpressionState) (tokens : Tokens) : Type 0 where
   pub after : ExpressionState
   pub rest : Tokens
@@ -37,27 +38,32 @@ pub record SomePart (limit : ℕ) (source : List ℕ) (n : Nonterminal) (before 
   pub is_part : IsPart limit source n before after tokens rest tree
 
 module _ {F : Type 0} where
-  -- the left side of an assignment, with its numbers replaced by those that they mean
+  -- the left side of an assignment as a reference, with its numbers replaced by those that they
+  -- mean
   abbrev pub meant_target : (F → Number) → Target F → Syntax Number
   meant_target value target = reference target.at target.name target.suffix (indices_in_numbers value (indices_of (map index_tree target.indices)))
 
   module _ (limit : ℕ) (value : F → Number) (source : List ℕ) where
-    -- the function `expression` reads this expression from a prefix of the first tokens, after
-    -- which the second ones remain; reading goes from the first state to the second
+    -- the parser's function `expression` reads this expression from a prefix of the first tokens,
+    -- after which the second ones remain: in numbers, it is the expression that the prefix means;
+    -- reading goes from the first state to the second
     abbrev pub IsExpression : ExpressionState → ExpressionState → Tokens → Tokens → Expr F → Type 0
     IsExpression = IsRead limit source Expression (λ names labels tree part. in_numbers value (tree_of part) ≡ trees.expression source names labels tree)
 
-    -- the function `primary` reads this expression from a prefix of the first tokens, after which
-    -- the second ones remain; reading goes from the first state to the second
+    -- the parser's function `primary` reads this expression from a prefix of the first tokens,
+    -- after which the second ones remain: in numbers, it is the operand that the prefix means;
+    -- reading goes from the first state to the second
     abbrev pub IsPrimary : ExpressionState → ExpressionState → Tokens → Tokens → Expr F → Type 0
     IsPrimary = IsRead limit source Primary (λ names labels tree part. in_numbers value (tree_of part) ≡ trees.primary source names labels tree)
 
-    -- the function `control` reads this control from a prefix of the first tokens, after which the
-    -- second ones remain; reading goes from the first state to the second
+    -- the parser's function `control` reads this control from a prefix of the first tokens, after
+    -- which the second ones remain: in numbers, it is the control that the prefix means; reading
+    -- goes from the first state to the second
     abbrev pub IsControl : ExpressionState → ExpressionState → Tokens → Tokens → Control F → Type 0
     IsControl = IsRead limit source ControlPart (λ names labels tree part. control_in_numbers value (control_tree part) ≡ trees.control source names labels tree)
 
-    -- the function `target` reads this left side from a prefix of the first tokens, after which the
-    -- second ones remain; reading goes from the first state to the second
+    -- the parser's function `target` reads this left side from a prefix of the first tokens, after
+    -- which the second ones remain: in numbers, it is the left side that the prefix means; reading
+    -- goes from the first state to the second
     abbrev pub IsTarget : ExpressionState → ExpressionState → Tokens → Tokens → Target F → Type 0
     IsTarget = IsRead limit source TargetPart (λ names labels tree part. meant_target value part ≡ trees.target source names labels tree)

@@ -50,15 +50,15 @@ IsBetter false outcome other = outcome <ℚ other
 
 module _ {F : Type 0} (number_of : F → Number) (limit : ℕ) (question : Question F) where
   -- A plan satisfies an equation: at each tuple of labels of the equation's sets for which its
-  -- condition holds, both sides have a value, and the left one compares with the right one as
-  -- `=e=`, `=l=` or `=g=` says. Variables are read in the plan; data, and attributes such as `.l`,
-  -- in the state of the solve.
+  -- condition holds, both sides are numbers, and the left one compares with the right one as `=e=`,
+  -- `=l=` or `=g=` says (`=n=`: any two numbers do). Variables are read in the plan; data, and
+  -- attributes such as `.l`, in the state of the solve.
   abbrev pub Satisfies : Plan → Definition F → Type 0
   Satisfies plan equation = (element : List ℕ) → has (elements question.state (sets_of_definition equation)) element ≡ true →
       holds_for number_of limit question.state (bound_to equation element) equation.condition ≡ Ok true → SidesCompare number_of limit question.state plan equation (bound_to equation element)
 
-  -- A plan is feasible: it satisfies each equation of the model, and each listed element is within
-  -- its bounds.
+  -- A plan, which gives each element of a variable a number, is feasible: it satisfies each
+  -- equation of the model, and each element that the solve lists (`listed`) is within its bounds.
   pub record IsFeasible (plan : Plan) : Type 0 where
     pub equations : All (Satisfies plan) (definitions_of_model question.statements question.model)
     pub bounds : KeepsBoundsOf question.state plan question.listed
@@ -67,7 +67,9 @@ module _ {F : Type 0} (number_of : F → Number) (limit : ℕ) (question : Quest
   abbrev pub plan_outcome : Plan → Number
   plan_outcome plan = plan (record { symbol = question.objective; tuple = [] })
 
-  -- A plan is optimal: it is feasible, and no feasible plan has a better outcome.
+  -- A plan is optimal: it is feasible, and no feasible plan has a better outcome. The outcome is
+  -- the number for the objective variable; a greater one is better when maximizing, else a less
+  -- one.
   pub record IsOptimal (plan : Plan) : Type 0 where
     pub feasible : IsFeasible plan
     pub best : (other : Plan) → IsFeasible other → IsBetter question.maximize (plan_outcome other) (plan_outcome plan) → ⊥
@@ -82,9 +84,9 @@ module _ {F : Type 0} (number_of : F → Number) (limit : ℕ) (question : Quest
 
   -- What an answer states of plans; its other fields (levels of rows, duals, a ray) are its
   -- certificate. Optimal: its levels are optimal. Infeasible: no plan is feasible. Unbounded: its
-  -- levels are feasible, and for each number some feasible plan has a better outcome. Interrupted
-  -- (by the limit of pivots) in phase 2 of the simplex method: its levels are feasible. Interrupted
-  -- in phase 1, or Refused (a number did not fit under the limit): nothing.
+  -- levels are feasible, and for each number some feasible plan has a better objective. Interrupted
+  -- (at the limit of the number of pivots) in phase 2 of the simplex method: its levels are
+  -- feasible. Interrupted in phase 1, or Refused (a number was too large to compute with): nothing.
   abbrev pub IsSo : End Number → Type 0
   IsSo (Optimal levels row_levels duals reduced) = AreLevels IsOptimal levels
   IsSo (Infeasible duals crossed) = (plan : Plan) → IsFeasible plan → ⊥

@@ -10,7 +10,8 @@ use Rattle.gms_table.specs.TableEntries.{IsTable}
 abbrev pub meant_entry : {F : Type 0} → (F → Number) → Entry F → Entry Number
 meant_entry value entry = record { at = entry.at; row = entry.row; column = entry.column; value = value entry.value }
 
--- the lines of a table have these entries, where `before` are the labels of the source before the
--- table, and `after` those after it
+-- the lines of a table have these entries; `limit` bounds the size of the numbers in them, `before`
+-- is the list of the source's labels when the reading of the table begins, and `after` the list
+-- when it has ended
 abbrev pub HasEntries : ℕ → List TableLine → List (List ℕ) → List (List ℕ) → List (Entry Number) → Type 0
 HasEntries limit lines before after entries = IsTable limit (λ x. x) lines before after entries

@@ -12,11 +12,11 @@ ghost use Rattle.gms_laws.specs.Domains.{HasItsMembers, IsWhereItHolds};
 
 use gq_field::ExactField;
 
-/// The domain of a fold, a loop or a left side over sets of one dimension. It is in order, so each
-/// tuple is in it once. It has exactly the tuples that have a member of each set at the position of
-/// that set, and for which the condition holds (GAMS User's Guide, "Data Manipulations with
-/// Parameters", indexed operations; "Conditional Expressions, Assignments and Equations", dollar
-/// control).
+/// The domain of a fold, a loop or a left side over sets of one dimension. It is in the order of
+/// tuples (label by label, by number), so each tuple is in it once. It has exactly the tuples that
+/// have a member of each set at the position of that set, and for which the condition holds (GAMS
+/// User's Guide, "Data Manipulations with Parameters", indexed operations; "Conditional
+/// Expressions, Assignments and Equations", dollar control).
 ///
 /// The laws assume sets of one dimension, as in each state that a run of an accepted program
 /// reaches; `exact` also assumes at most 10 sets, the most that a domain has.

@@ -24,17 +24,17 @@ ghost use Rattle.gms_laws.specs.Modes.{IsInItem, IsExpected, IsAfterElement, IsL
 /// Programs", data declarations and lists).
 ///
 /// After a `;` the next token is read as code, that is, outside of declarations (`code`). After the
-/// keyword of a declaration an item begins (`declaration`, `table`). A word there is the item's
-/// name (`name`); a comma or a line end ends the item, and the next one begins (`item`); a `/`
-/// begins its list (`list`), and the `/` after an element ends the list (`list_end`). In a list a
-/// comma or a line end ends an element, and the next one is expected (`element`). A label is
-/// followed by the text or value of its element, or joined to another by a dot or a star (`label`,
-/// `joined`).
+/// keyword of a declaration an item begins (`declaration`), and after the keyword `table` a table's
+/// name (`table`). A word where an item begins, if no keyword, is its name (`name`); a comma or a
+/// line end ends the item, and the next one begins (`item`); a `/` begins its list (`list`), and
+/// the `/` after an element ends the list (`list_end`). In a list a comma or a line end ends an
+/// element, and the next one is expected (`element`). A label is followed by the text or value of
+/// its element, or joined to another by a dot or a star (`label`, `joined`).
 ///
 /// Where a label is expected, each token is a label or a symbol (`labels`), and none is a number
-/// (`never_numbers`): `1990` is a label there. After an element of a parameter a value is expected:
-/// each token there is read as in code, so that `1990` is a number (`value`), and after a number
-/// the element's value is complete (`number`).
+/// (`never_numbers`): `1990` is a label there. After an element of a parameter and a blank a value
+/// is expected: each token there is read as in code, so that `1990` is a number (`value`), and
+/// after a number the element's value is complete (`number`).
 pub fn mode_laws()
     ensures code { (mode : Mode) (text : List ℕ) → mode_after mode (Token (Symbol Semicolon)) text ≡ Code }
     ensures declaration { (text : List ℕ) (shape : Shape) → keyword_of text ≡ Some (Declarer shape) → mode_after Code (Token Word) text ≡ Item shape }
@@ -72,10 +72,11 @@ pub fn mode_laws()
 /// after a comma a label is expected (`comma`). A line end within parentheses ends nothing
 /// (`lines`).
 ///
-/// A word after `table` is the table's name (`table_name`). A text may follow the name or the
-/// domain (`table_text`), and after a line end the lines of the table begin (`table_lines`). After
-/// a line the next one may follow (`table_line`). No line of a table begins with the keyword of a
-/// statement (`never_statements`): the keyword of a declaration ends the table (`table_end`).
+/// A word other than a keyword after `table` is the table's name (`table_name`). A text may follow
+/// the name or the domain (`table_text`), and after a line end the lines of the table begin
+/// (`table_lines`). After a line the next one may follow (`table_line`). No line of a table begins
+/// with the keyword of a statement (`never_statements`): the keyword of a declaration ends the
+/// table (`table_end`).
 pub fn place_laws()
     ensures domain { (named inside after : Mode) (text : List ℕ) →
         HasDomain named inside after → mode_after named (Token (Symbol LeftParen)) text ≡ inside }

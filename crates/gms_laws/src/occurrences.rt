@@ -16,10 +16,12 @@ use gq_field::ExactField;
 
 /// Where a variable and a set occur in a program without compile errors.
 ///
-/// A variable without suffix occurs only in a side of a definition, and there in no condition, no
-/// operand of a relation or of a logical operator, and no lag (`variables`). A set occurs only as
-/// an operand of `$`, `not`, `and`, `or` or `xor`, alone in a condition, or among the members of
-/// the right side of an assignment to a set (`sets`).
+/// A variable without suffix occurs only in a side of an equation's definition, and there in no
+/// condition, no operand of a relation or of a logical operator, and no lag (`variables`). A set
+/// occurs only as an operand or a condition of `$`, as an operand of `not`, `and`, `or` or `xor`,
+/// alone as a condition, or on the right side of an assignment to a set (`sets`). There it is the
+/// whole side or, at any depth, an operand of a sign, a sum, a product, a power or `not`, or the
+/// left operand of `$`.
 ///
 /// GAMS User's Guide, "Data Manipulation"; "Equations"; "Conditional Expressions, Assignments and
 /// Equations"; "Dynamic Sets".

@@ -17,10 +17,12 @@ use gq_field::ExactField;
 /// errors).
 ///
 /// `n` is a nonterminal of the grammar; four nonterminals, for an expression, an operand
-/// (`primary`), a control and a left side (`target`), have a function that reads them. `before` is
-/// the state after the tokens before the part, and `after` the one after its tokens; `rest` are the
-/// tokens after it. A result is compared by the numbers that it means, in whatever field they are
-/// stored.
+/// (`primary`), a control and a left side (`target`), have a function that reads them. The state of
+/// a reading is how many parentheses are open, the names and labels, and whether the last token was
+/// a dot. `before` is the state after the tokens before the part, and `after` the one after its
+/// tokens; `rest` are the tokens after it. Two readings of the same tokens from the same state
+/// `before` have equal results, `after` and `rest`. A result is compared by the numbers that it
+/// means, in whatever field they are stored.
 pub fn part_laws<F: ExactField>()
     ensures one_part { (limit : ℕ) (source : List ℕ) (n : Nonterminal) (before after later : ExpressionState)
         (tokens rest others : Tokens) (one other : Derivation) →

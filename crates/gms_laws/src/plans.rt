@@ -20,12 +20,14 @@ ghost use Rattle.lp_slot.specs.declared.solver.SolverRule.{SolverRule};
 use gq_field::ExactField;
 
 /// In the run of an accepted program what each answer states is true of the model as it is written,
-/// with the data at the moment of the solve. A plan gives each element of a variable a number; it
-/// is feasible if it satisfies every equation of the model, at each element of its sets for which
-/// its condition holds, and the bounds of each listed element of a variable. *Optimal*: the levels
-/// are feasible, and no feasible plan has a better objective. *Infeasible*: no plan is feasible.
-/// *Unbounded*: the levels are feasible, and for each number some feasible plan has a better
-/// objective than that. *Interrupted* in phase 2: the levels are feasible.
+/// with the data at the moment of the solve. Each solve must have an answer of its linear program,
+/// by the pivot rule of its solver. The levels are those of the answer. A plan gives each element
+/// of a variable a number; it is feasible if it satisfies every equation of the model, at each
+/// element of its sets for which its condition holds, and the bounds of each listed element of a
+/// variable. *Optimal*: the levels are feasible, and no feasible plan has a better objective.
+/// *Infeasible*: no plan is feasible. *Unbounded*: the levels are feasible, and for each number
+/// some feasible plan has a better objective than that. *Interrupted* in phase 2: the levels are
+/// feasible.
 ///
 /// The listed elements are those that occur in a row, and the objective. What is stated of levels
 /// holds of each plan that has them at the listed elements, with any levels elsewhere.

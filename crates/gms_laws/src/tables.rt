@@ -13,7 +13,8 @@ use gq_field::ExactField;
 /// (GAMS User's Guide, "Data Entry: Parameters, Scalars and Tables").
 ///
 /// An entry is compared by the number that it means, in whatever field it is stored (`seen`).
-/// `before` and `after` are the labels of the source before the table and after it.
+/// `before` is the list of the source's labels when the reading of the table begins, and `after`
+/// the list when it has ended.
 pub fn table_laws<F: ExactField>()
     ensures seen { (lines : List TableLine) (before after : List (List ℕ)) (entries : List (Entry F)) →
         IsTable F.limit F.value lines before after entries → HasEntries F.limit lines before after (map (meant_entry F.value) entries) }

@@ -1,5 +1,5 @@
 -- Texts that are appended piece by piece: what was appended so far, and what is left of the whole.
-use Rattle.std.proofs.Common.{◌≡◌, ℕ, zero, suc, ◌+◌, ◌-◌, ◌==◌, ◌<◌, ◌≤◌, ◌∙◌, sym, ap, ap₂, refl, Bool, true, false, if◌then◌else◌, List, [], ◌∷◌, ◌++◌, Result, Ok, Err, take, drop, length, get_or, flat_map, map, filter, arith, subst, add-one, drop-cons}
+use Rattle.std.proofs.Common.{◌≡◌, ℕ, zero, suc, ◌+◌, ◌-◌, ◌==◌, ◌<◌, ◌≤◌, ◌∙◌, sym, ap, ap₂, refl, Bool, true, false, if◌then◌else◌, List, [], ◌∷◌, ◌++◌, Result, take, drop, length, get_or, flat_map, map, filter, arith, subst, add-one, drop-cons}
 use Rattle.std.proofs.lemmas.Bool.Decides.{nat_tests}
 use Rattle.std.specs.Prelude.{IsErr}
 use Rattle.std.specs.List.{enumerate_from}

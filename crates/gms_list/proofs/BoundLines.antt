@@ -14,7 +14,7 @@ use Rattle.lp_core.specs.Steps.{ExpectedStep, AllFit, FirstStop}
 use Rattle.lp_check.specs.BoundSteps.{bound_steps, objective_bound}
 use Rattle.lp_check.specs.Partials.{first_unfit}
 use Rattle.gms_list.specs.SolveText.{bound_line, bound_lines, step_text}
-use Rattle.gms_list.proofs.BoundNumbers.{itself, fits_over, fits_same, bound_same}
+use Rattle.gms_list.proofs.BoundNumbers.{fits_over, fits_same, bound_same}
 
 -- steps that are checks, numbered from this one on
 abbrev pub checks : ℕ → List Bool → List ExpectedStep

@@ -11,7 +11,7 @@ use Rattle.lp_core.specs.Feasible.{bound_value}
 use Rattle.lp_core.specs.Sums.{column_coefficient}
 use Rattle.lp_core.specs.Steps.{asks_nothing}
 use Rattle.lp_core.specs.Numbers.{entries_numbers, column_numbers, row_numbers, lp_numbers}
-use Rattle.lp_core.specs.DualBound.{row_lower, row_upper, used, total, both, objective_costs, no_costs, reduced_cost, rows_low, columns_low, low, rows_high, columns_high, high}
+use Rattle.lp_core.specs.DualBound.{row_lower, row_upper, used, total, both, objective_costs, no_costs, reduced_cost, low, high}
 use Rattle.lp_check.specs.BoundSteps.{plus_steps, plus_product, less_steps, less_product, bound_used, entry_of, entry_in, row_bound, column_bound, rows_sum, reduced_cost_bound_steps, all_reduced_steps, row_bound_steps, columns_steps, steps_of_bound, objective_bound}
 use Rattle.gms_list.specs.SolveText.{bound_steps_fit}
 

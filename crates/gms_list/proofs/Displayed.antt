@@ -1,5 +1,5 @@
 -- The text after the name of a symbol, case by case.
-use Rattle.std.proofs.Common.{◌≡◌, ◌≢◌, ℕ, ◌==◌, ◌++◌, List, [], ◌∷◌, codes, decimal, length, flat_map, true, false, if◌then◌else◌, Some, None, Option, sym, ap, refl, ◌∙◌, arith, map}
+use Rattle.std.proofs.Common.{◌≡◌, ◌≢◌, ℕ, ◌==◌, ◌++◌, List, [], ◌∷◌, codes, decimal, length, flat_map, true, false, if◌then◌else◌, Some, None, sym, ap, refl, ◌∙◌, arith, map}
 use Rattle.std.proofs.lemmas.Bool.Decides.{nat_tests}
 use Rattle.gms_store.specs.declared.kind.SymbolKind.{SymbolKind}
 use Rattle.gms_store.specs.declared.kind.SymbolKind.TheVariants.{Set, Parameter, Variable, Equation, Model, Undeclared}

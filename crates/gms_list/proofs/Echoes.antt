@@ -10,7 +10,7 @@ use Rattle.gms_fmt.specs.Columns.{right_in}
 use Rattle.gms_grammar.specs.Lines.{put_first, lines, begins, is_line_end, before, content}
 use Rattle.gms_grammar.proofs.LineLemmas.{before_stops, before_more}
 use Rattle.gms_list.specs.InnerLineEnds.{text_after_end}
-use Rattle.gms_list.specs.ListingText.{numbered_line, numbered_from, echo_text}
+use Rattle.gms_list.specs.ListingText.{numbered_line, numbered_from}
 
 content_ended : (b : ℕ) (t : List ℕ) → is_line_end (b ∷ t) ≡ true → content (b ∷ t) ≡ []
 content_ended b t e = ap (λ n. take n (b ∷ t)) (before_stops is_line_end (b ∷ t) e)

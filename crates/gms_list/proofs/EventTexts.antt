@@ -1,6 +1,6 @@
 -- What an event shows that is a solve: the text of its answer, if there is one.
-use Rattle.std.proofs.Common.{◌≡◌, ℕ, ◌∙◌, List, [], map, flat_map, sym, ap, ap₂, Option, Some, None, option_map, slice_get}
-use Rattle.std.specs.Prelude.{option_to_list, IfSome}
+use Rattle.std.proofs.Common.{◌≡◌, ℕ, ◌∙◌, List, [], map, flat_map, sym, ap, ap₂, Some, None, option_map, slice_get}
+use Rattle.std.specs.Prelude.{option_to_list}
 use Rattle.std.proofs.lemmas.List.{append-nil}
 use Rattle.std.proofs.lemmas.Option.{slice_get-map}
 use Rattle.gq_number.specs.Number.{Number}

@@ -1,13 +1,10 @@
 -- What is listed of rows, columns and entries: nothing where none is to be listed.
-use Rattle.std.proofs.Common.{◌≡◌, ℕ, ◌==◌, ◌++◌, ◌-◌, Bool, true, false, List, [], ◌∷◌, length, map, flat_map, filter, refl, sym, ap, ◌∙◌, codes, if◌then◌else◌, decimal}
+use Rattle.std.proofs.Common.{◌≡◌, ℕ, ◌==◌, ◌++◌, ◌-◌, true, false, List, [], flat_map, sym, ap, codes, if◌then◌else◌, decimal}
 use Rattle.std.specs.Prelude.{nat_lt}
 use Rattle.gq_number.specs.Number.{Number}
-use Rattle.lp_form.specs.declared.key.Key.{Key}
 use Rattle.lp_core.specs.declared.program.Lp.{Lp}
-use Rattle.lp_core.specs.Numbers.{entries_numbers}
-use Rattle.gms_fmt.specs.ElementTexts.{element_text}
 use Rattle.gms_list.specs.Amounts.{line_of}
-use Rattle.gms_list.specs.SolveText.{amount, more_text, equation_text, variable_text, variables, rows_listing, columns_listing, column_entry_line}
+use Rattle.gms_list.specs.SolveText.{more_text, equation_text, variable_text, variables, rows_listing, columns_listing}
 
 -- none is to be listed
 pub no_rows : (names labels : List (List ℕ)) (limit : ℕ) (lp : Lp Number) (most : ℕ) (equations : List ℕ) → (most == 0) ≡ true → [] ≡ rows_listing names labels limit lp most equations

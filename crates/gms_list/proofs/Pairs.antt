@@ -1,5 +1,5 @@
 -- The pairs of a stop: the first and the later ones.
-use Rattle.std.proofs.Common.{◌≡◌, ℕ, ◌<◌, ◌≤◌, ◌++◌, List, [], ◌∷◌, codes, length, get_or, drop, refl, arith}
+use Rattle.std.proofs.Common.{◌≡◌, ℕ, ◌≤◌, ◌++◌, List, [], ◌∷◌, codes, length, get_or, drop, refl, arith}
 use Rattle.gms_eval.specs.Bindings.{Pairs}
 use Rattle.gms_list.specs.ListingText.{pair_text, further_pairs, pairs_text}
 

@@ -1,6 +1,6 @@
 -- The certificate of an end, as its pieces are appended in sequence.
 use Rattle.gms_list.proofs.Shapes.{three}
-use Rattle.std.proofs.Common.{◌≡◌, ℕ, ◌++◌, List, [], ◌∷◌, Option, Some, None, true, false, codes, decimal, map, flat_map, refl, sym, ap, ◌∙◌}
+use Rattle.std.proofs.Common.{◌≡◌, ℕ, ◌++◌, List, [], ◌∷◌, Option, Some, None, true, false, codes, decimal, map, flat_map, sym, ap, ◌∙◌}
 use Rattle.std.specs.Prelude.{slice_get, option_to_list, option_map}
 use Rattle.std.proofs.lemmas.List.{append_assoc, append-nil}
 use Rattle.std.proofs.lemmas.Option.{slice_get-map}

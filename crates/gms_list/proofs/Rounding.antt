@@ -1,5 +1,5 @@
 -- That the rounded texts of numbers compute.
-use Rattle.std.proofs.Common.{◌≡◌, ◌≢◌, ℕ, zero, suc, ◌+◌, ◌*◌, ◌/◌, ◌%◌, ◌-◌, ◌^◌, ◌<◌, ◌≤◌, ◌==◌, Bool, true, false, List, [], ◌∷◌, ◌++◌, length, refl, sym, ap, ap₂, ◌∙◌, subst, arith, inl, inr, codes, decimal, ℤ, pos, negsuc, neg_ℤ, nat_abs, get_or, replicate, add-one, if◌then◌else◌, length-append, append_assoc, mul-le-mul_right, ◌&&◌, nat_lt}
+use Rattle.std.proofs.Common.{◌≡◌, ℕ, zero, suc, ◌+◌, ◌*◌, ◌/◌, ◌%◌, ◌-◌, ◌^◌, ◌<◌, ◌≤◌, ◌==◌, Bool, true, false, List, [], ◌∷◌, ◌++◌, length, refl, sym, ap, ◌∙◌, subst, arith, codes, decimal, ℤ, pos, negsuc, nat_abs, replicate, add-one, if◌then◌else◌, length-append, mul-le-mul_right, ◌&&◌, nat_lt}
 use Rattle.std.proofs.lemmas.List.{length-replicate}
 use Rattle.std.specs.Int.RustNames.{int_lt}
 use Rattle.gq_text.specs.InnerAppends.{sign_text}

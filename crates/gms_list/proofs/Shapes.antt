@@ -1,5 +1,5 @@
 -- Lines as their pieces are appended in sequence, and as their definitions put them together.
-use Rattle.std.proofs.Common.{◌≡◌, ℕ, ◌++◌, List, [], ◌∷◌, codes, decimal, refl, sym, ap, ap₂, ◌∙◌}
+use Rattle.std.proofs.Common.{◌≡◌, ℕ, ◌++◌, List, [], ◌∷◌, codes, decimal, refl, sym, ap₂, ◌∙◌}
 use Rattle.std.proofs.lemmas.List.{append_assoc, append-nil}
 use Rattle.gms_fmt.specs.Columns.{right_in, left_in}
 use Rattle.std.proofs.Common.{Option, Some, None, option_map}

@@ -2,7 +2,7 @@
 use Rattle.std.proofs.Common.{◌≡◌, ◌∙◌, zero, suc, Bool, true, false, refl, ap, ℤ, pos, negsuc, ◌↔◌, IsTrue}
 use Rattle.std.specs.declared.cmp.Ordering.{Ordering}
 use Rattle.std.specs.declared.cmp.Ordering.TheVariants.{Less, Equal, Greater}
-use Rattle.std.specs.Ordering.{is_eq, eq_by_cmp}
+use Rattle.std.specs.Ordering.{is_eq}
 use Rattle.gq_number.specs.Order.{number_cmp}
 use Rattle.gq_number.proofs.Compares.{number_cmp_decides, number_cmp_total}
 use Rattle.std.proofs.lemmas.Cmp.{tied_itself}

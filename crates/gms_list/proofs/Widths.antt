@@ -1,5 +1,5 @@
 -- The length of the longest text, entry by entry.
-use Rattle.std.proofs.Common.{◌≡◌, ℕ, ◌+◌, ◌<◌, ◌≤◌, ◌∙◌, ap, sym, refl, List, map, drop, max, length, get_or, ◌∷◌}
+use Rattle.std.proofs.Common.{◌≡◌, ℕ, ◌+◌, ◌<◌, ◌≤◌, ◌∙◌, ap, sym, List, map, drop, max, length, get_or, ◌∷◌}
 use Rattle.std.specs.List.{fold}
 use Rattle.std.proofs.lemmas.List.{drop_all}
 use Rattle.gq_extended.specs.Extended.{Extended}

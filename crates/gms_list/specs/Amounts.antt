@@ -10,17 +10,18 @@ line_of text = text ++ 10 ∷ []
 abbrev pub in_places : ℕ → ℕ → List ℕ
 in_places places n = replicate (places - length (decimal n)) 48 ++ decimal n
 
--- the decimal text of n units of the last decimal: the integer part, a point, and the decimals;
--- without decimals there is no point
+-- the decimal text of n over 10^decimals, with that many decimals: the integer part, a point, and
+-- the decimals; if `decimals` is 0 there is no point
 abbrev pub fixed_text : ℕ → ℕ → List ℕ
 fixed_text decimals n =
     decimal (n / 10 ^ decimals) ++ (if decimals == 0 then [] else codes "." ++ in_places decimals (n % 10 ^ decimals))
 
--- the decimal text of an integer number of units of the last decimal, with its sign
+-- the decimal text of an integer over 10^decimals, with that many decimals, after `-` if the
+-- integer is below 0
 abbrev pub signed_text : ℕ → ℤ → List ℕ
 signed_text decimals (pos n) = fixed_text decimals n
 signed_text decimals (negsuc n) = codes "-" ++ fixed_text decimals (n + 1)
 
--- the decimal text of a number that is rounded to this number of decimals, half away from zero
+-- the decimal text of x, rounded to `decimals` decimals, half away from zero
 abbrev pub rounded_text : ℕ → Number → List ℕ
 rounded_text decimals x = signed_text decimals (rounded (x *ℚ whole (pos (10 ^ decimals))))

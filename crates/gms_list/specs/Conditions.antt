@@ -14,8 +14,10 @@ use Rattle.lp_core.specs.WellFormed.{IsWellFormed}
 
 module _ {F : Type 0} (value : F → Number) (lp : Lp F) where
   -- An optimal, infeasible or unbounded end of an answer has a certificate for the linear program.
-  -- An end that was interrupted in phase 2 has one level for each column and each row. Nothing is
-  -- required of other ends.
+  -- Infeasible with Some j has this one: j is the first column whose lower bound is above its upper
+  -- bound, and all duals are 0. An end that was interrupted in phase 2 has one level for each
+  -- column and each row. Nothing is required of other ends. `value` gives the number that a value
+  -- of type F means.
   abbrev pub HasProof : End F → Type 0
   HasProof (Optimal levels row_levels duals reduced) = ProvesOptimal value lp (map value levels) (map value row_levels) (map value duals) (map value reduced)
   HasProof (Infeasible duals None) = ProvesInfeasible value lp (map value duals)
@@ -26,13 +28,13 @@ module _ {F : Type 0} (value : F → Number) (lp : Lp F) where
 
 module _ {F : Type 0} (value : F → Number) (answers : List (Answer F)) where
   -- a solve can be listed: its linear program is well-formed, and if there is an answer at the
-  -- index `answer`, the answer's end satisfies `HasProof`
+  -- index `answer` of the list `answers`, the end of this answer satisfies `HasProof`
   pub record IsListableSolve (lp : Lp F) (answer : ℕ) : Type 0 where
     pub formed : IsWellFormed value lp
     pub occurs : IfSome (slice_get answers answer) (λ a. HasProof value lp a.end)
 
   -- an event can be listed: each item that a display or an abort shows has at most 8 decimals, and
-  -- a solve can be listed; a fault always can
+  -- a solve satisfies `IsListableSolve`; of a fault nothing is required
   abbrev pub IsListable : Event F → Type 0
   IsListable (Display line items) = All (λ (item : Shown F). item.decimals ≤ 8) items
   IsListable (Abort line items) = All (λ (item : Shown F). item.decimals ≤ 8) items

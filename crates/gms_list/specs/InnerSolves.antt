@@ -1,5 +1,5 @@
 -- The contracts of listing a solve.
-use Rattle.std.specs.Prelude.{ℕ, ◌==◌, if◌then◌else◌, List, [], ◌∷◌, ◌++◌, length, codes, decimal, map, Option, option_map, None, Some}
+use Rattle.std.specs.Prelude.{ℕ, ◌==◌, if◌then◌else◌, List, [], ◌∷◌, ◌++◌, length, codes, decimal, map, None}
 use Rattle.std.specs.List.{list_any}
 use Rattle.gq_number.specs.Number.{Number}
 use Rattle.gms_event.specs.Events.{Solved}

@@ -1,6 +1,6 @@
 -- The text of a listing: the echo of the source, its errors or what the run shows, and the last
 -- line (GAMS User's Guide, "GAMS Output"). The form of the lines is this project's own.
-use Rattle.std.specs.Prelude.{ℕ, ◌+◌, ◌*◌, ◌/◌, ◌%◌, ◌^◌, ◌-◌, pos, negsuc, ℤ, nat_abs, nat_lt, Bool, true, false, not, ◌&&◌, ◌==◌, max, List, [], ◌∷◌, ◌++◌, length, map, flat_map, replicate, slice_get, option_to_list, Option, Some, None, codes, decimal, if◌then◌else◌}
+use Rattle.std.specs.Prelude.{ℕ, ◌+◌, Bool, true, false, ◌==◌, max, List, [], ◌∷◌, ◌++◌, length, map, flat_map, slice_get, option_to_list, Some, None, codes, decimal, if◌then◌else◌}
 use Rattle.std.specs.List.{fold}
 use Rattle.gq_extended.specs.Extended.{Extended, number, plus_infinity, minus_infinity, na}
 use Rattle.gms_labels.specs.declared.place.Place.{Place}
@@ -8,7 +8,7 @@ use Rattle.gms_grammar.specs.Lines.{lines, content}
 use Rattle.gms_ast.specs.declared.expression.Suffix.{Suffix}
 use Rattle.gms_ast.specs.declared.expression.Suffix.TheVariants as suffix
 use Rattle.gms_store.specs.declared.kind.SymbolKind.{SymbolKind}
-use Rattle.gms_store.specs.declared.kind.SymbolKind.TheVariants.{Set, Parameter, Variable, Equation, Model, Undeclared}
+use Rattle.gms_store.specs.declared.kind.SymbolKind.TheVariants.{Set, Parameter, Variable, Equation}
 use Rattle.gms_eval.specs.declared.stop.StopKind.{StopKind}
 use Rattle.gms_eval.specs.declared.stop.StopKind.TheVariants.{DomainSize, TooManyRows, TooManyColumns}
 use Rattle.gms_eval.specs.Bindings.{Pairs}
@@ -49,17 +49,19 @@ echo_text n source = numbered_from n (map content (lines source))
 
 -- ---- errors
 
--- the line of the fault of a source that is no program
+-- the line of the fault of a source that is no program: the number, the name and the place of the
+-- fault
 abbrev pub source_error_text : SourceFault → List ℕ
 source_error_text fault =
     line_of (codes "*** Source error " ++ decimal (source_code fault.error) ++ codes " " ++ source_name fault.error ++ place_text fault.at)
 
--- the line of the fault of a save that cannot be restored, by the fault's number and name
+-- the line of a fault for which a save cannot be restored: the fault's number `code`, its name
+-- `name` and its place `at`
 abbrev pub save_error_text : ℕ → List ℕ → Place → List ℕ
 save_error_text code name at =
     line_of (codes "*** Source error " ++ decimal code ++ codes " " ++ name ++ place_text at)
 
--- the line of a compile error of a program
+-- the line of a compile error of a program: the number, the name and the place of the error
 abbrev pub compile_error_text : CompileError → List ℕ
 compile_error_text error =
     line_of (codes "*** Compile error " ++ decimal (kind_code error.kind) ++ codes " " ++ kind_name error.kind ++ place_text error.at)
@@ -79,8 +81,8 @@ rounded_value_text decimals na = codes "NA"
 
 -- ---- what is displayed
 
--- the word for the kind of a displayed symbol: a parameter without indices and the status of a
--- model are scalars
+-- the word for the kind of a displayed symbol, which has indices if `indexed`; a parameter without
+-- indices and the status of a model, the last case, are scalars
 abbrev pub kind_text : SymbolKind → Bool → List ℕ
 kind_text Set indexed = codes "SET"
 kind_text Parameter true = codes "PARAMETER"
@@ -99,7 +101,7 @@ suffix_text suffix.Fx = codes ".fx"
 suffix_text suffix.ModelStat = codes ".modelstat"
 suffix_text suffix.SolveStat = codes ".solvestat"
 
--- the entries of a displayed symbol: tuples with their values
+-- the entries of a displayed symbol: tuples of labels, each label by its number, with their values
 abbrev pub TupleValues : Type 0
 TupleValues = List (List ℕ × Extended)
 
@@ -118,14 +120,16 @@ single_text item = line_of (codes " = " ++ flat_map (number_text item.decimals) 
 
 -- ---- the stop of a run
 
--- whether a stop of this kind has a count: of elements, rows or columns that are too many
+-- whether a stop of this kind has a count: how many elements, rows or columns there are, which are
+-- more than there may be
 abbrev pub has_count : StopKind → Bool
 has_count DomainSize = true
 has_count TooManyRows = true
 has_count TooManyColumns = true
 has_count kind = false
 
--- the text of the count of a stop; empty for a kind without one
+-- the text of the count of a stop (how many elements, rows or columns there are, which are too
+-- many); empty for a kind without a count
 abbrev pub count_text : StopKind → ℕ → List ℕ
 count_text kind count = if has_count kind then codes " count " ++ decimal count else []
 
@@ -140,19 +144,20 @@ module _ (labels : List (List ℕ)) where
   abbrev pub member_text : List ℕ × Extended → List ℕ
   member_text entry = line_of (codes "  " ++ dotted_text labels entry.0)
 
-  -- the line of an entry of any other symbol: its tuple, left-aligned in `width` characters, and
-  -- its value, right-aligned in 14
+  -- the line of an entry of a symbol that is no set: its tuple, left-aligned in `width` characters,
+  -- and its value, rounded to `decimals` decimals and right-aligned in 14 characters
   abbrev pub entry_text : ℕ → ℕ → List ℕ × Extended → List ℕ
   entry_text width decimals entry =
       line_of (codes "  " ++ left_in width (dotted_text labels entry.0) ++ codes " " ++ right_in 14 (rounded_value_text decimals entry.1))
 
-  -- the lines of the entries of a displayed symbol of this kind
+  -- the lines of the entries of a displayed symbol of this kind; their values, which a set does not
+  -- have, are rounded to `decimals` decimals
   abbrev pub entries_text : SymbolKind → ℕ → TupleValues → List ℕ
   entries_text Set decimals entries = flat_map member_text entries
   entries_text kind decimals entries = flat_map (entry_text (tuple_width entries) decimals) entries
 
-  -- the text after the name of a displayed symbol: for one without indices its value, otherwise the
-  -- lines of its entries
+  -- the text after the name of a displayed symbol: if it has no indices its value; otherwise the
+  -- end of the line, and then the lines of its entries, or one line which says that it has none
   abbrev pub values_text : Shown → List ℕ
   values_text item =
       if item.indexed then
@@ -175,7 +180,7 @@ module _ (names labels : List (List ℕ)) where
   abbrev pub items_text : ℕ → List Shown → List ℕ
   items_text line items = flat_map (item_text line) items
 
-  -- the text of a controlled set and its label
+  -- the text of a controlled set and its label: the set's name, `=` and the label
   abbrev pub pair_text : ℕ × ℕ → List ℕ
   pair_text pair = label_in_table names pair.0 ++ codes "=" ++ label_in_table labels pair.1
 
@@ -189,15 +194,17 @@ module _ (names labels : List (List ℕ)) where
   pairs_text [] = []
   pairs_text (pair ∷ pairs) = codes " with " ++ pair_text pair ++ further_pairs pairs
 
-  -- the line of the stop of a run: its kind and place, the labels of controlled sets, and its count
+  -- the line of the stop of a run, an execution error: its kind and place, the labels of controlled
+  -- sets, and, if its kind has one, the count of elements, rows or columns, which are too many
   abbrev pub stop_text : Fault → List ℕ
   stop_text fault =
       line_of (codes "*** Execution error " ++ decimal (stop_code fault.kind) ++ codes " " ++ stop_name fault.kind ++ place_text fault.at ++ pairs_text fault.binding ++ count_text fault.kind fault.count)
 
   -- ---- events
 
-  -- the text of an event of a run, whose solves have these answers; `limit` bounds the numerators
-  -- and denominators of the numbers that the run computes with
+  -- The text of an event of a run, whose solves have these answers: `solved.answer` is the index of
+  -- a solve's answer in the list, and a solve without one has no text. `limit` bounds the
+  -- numerators and denominators of the numbers that the run computes with.
   abbrev pub event_text : ℕ → List (Answer Number) → Event → List ℕ
   event_text limit answers (displays line items) = items_text line items
   event_text limit answers (aborts line items) = items_text line items
@@ -210,12 +217,15 @@ module _ (names labels : List (List ℕ)) where
 
 -- ---- the whole listing
 
--- the last line of a listing: the exit status and the number of solves
+-- the last line of a listing: the exit status `status`, and `made`, the number of solves
 abbrev pub end_text : ℕ → ℕ → List ℕ
 end_text status made = line_of (codes "END status " ++ decimal status ++ codes " solves " ++ decimal made)
 
 -- the listing of a file whose run shows these events and ends with this exit status: the echo, the
--- text of the events, and the last line; `line` is the number of the file's first line
+-- text of the events, and the last line. `line` is the number of the file's first line, `names` and
+-- `labels` have the texts of names and labels by their numbers, `answers` has the answer to each
+-- solve of the run, in order, and `limit` bounds the numerators and denominators of the numbers
+-- that the run computes with
 abbrev pub run_listing : List (List ℕ) → List (List ℕ) → ℕ → ℕ → List ℕ → List (Answer Number) → List Event → ℕ → List ℕ
 run_listing names labels limit line file answers events status =
     echo_text line file ++ events_text names labels limit answers events ++ end_text status (length answers)
@@ -225,14 +235,17 @@ abbrev pub has_echo : SourceError → Bool
 has_echo TooLong = false
 has_echo error = true
 
--- the echo of a file whose source has this error; empty if it is too long
+-- the echo of a file whose source has this error, where the first line has the number `line`; empty
+-- if the source is too long
 abbrev pub refused_echo : SourceError → ℕ → List ℕ → List ℕ
 refused_echo error line file = if has_echo error then echo_text line file else []
 
--- the listing of a file whose source is no program: the echo, the fault, and the last line
+-- the listing of a file whose source is no program: the echo, where the first line has the number
+-- `line`, the fault, and the last line, with the exit status 2 and no solves
 abbrev pub refused_listing : ℕ → List ℕ → SourceFault → List ℕ
 refused_listing line file fault = refused_echo fault.error line file ++ source_error_text fault ++ end_text 2 0
 
--- the listing of a file whose program has errors: the echo, the errors, and the last line
+-- the listing of a file whose program has errors: the echo, where the first line has the number
+-- `line`, the errors, and the last line, with the exit status 2 and no solves
 abbrev pub errors_listing : ℕ → List ℕ → List CompileError → List ℕ
 errors_listing line file errors = echo_text line file ++ compile_errors_text errors ++ end_text 2 0

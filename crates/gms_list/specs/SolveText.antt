@@ -1,14 +1,13 @@
 -- What a solve shows: rows and columns, counts and statuses, levels and marginals, and the proof,
 -- which is the answer's certificate (GAMS User's Guide, "GAMS Output"). The form of the lines, and
 -- the proof, are this project's own.
-use Rattle.std.specs.Prelude.{ℕ, ◌+◌, ◌-◌, ◌==◌, nat_lt, pos, negsuc, ℤ, Bool, true, false, not, ◌&&◌, max, List, [], ◌∷◌, ◌++◌, length, map, flat_map, filter, take, slice_get, slice_index_or, sum, Option, Some, None, option_to_list, Result, Ok, Err, codes, decimal, if◌then◌else◌}
-use Rattle.std.specs.List.{fold, enumerate_from, list_any}
+use Rattle.std.specs.Prelude.{ℕ, ◌+◌, ◌-◌, ◌==◌, nat_lt, pos, negsuc, ℤ, Bool, true, false, not, max, List, [], ◌∷◌, ◌++◌, length, map, flat_map, filter, take, slice_get, slice_index_or, sum, Option, Some, None, option_to_list, codes, decimal, if◌then◌else◌}
+use Rattle.std.specs.List.{fold, enumerate_from}
 use Rattle.gq_number.specs.Number.{Number, whole, neg_ℚ}
-use Rattle.gms_ast.specs.declared.expression.Suffix.{Suffix}
 use Rattle.gms_store.specs.State.{same_number}
 use Rattle.gms_event.specs.Events.{Solved}
 use Rattle.gms_fmt.specs.Columns.{right_in, left_in}
-use Rattle.gms_fmt.specs.ElementTexts.{label_in_table, element_text, joined_by}
+use Rattle.gms_fmt.specs.ElementTexts.{label_in_table, element_text}
 use Rattle.lp_check.specs.BoundSteps.{steps_of_bound, objective_bound}
 use Rattle.lp_check.specs.Partials.{first_unfit}
 use Rattle.gms_store.specs.Statuses.{model_number, model_text, solver_number, solver_text}
@@ -53,13 +52,14 @@ is_negative (negsuc n) = true
 abbrev pub number_magnitude : Number → Number
 number_magnitude x = if is_negative x.numerator then neg_ℚ x else x
 
--- the text of a number in a column of a table: a blank, and the number right-aligned in 12
--- characters; 0 is a dot
+-- the text of a number in a column of a table: a blank, and the number with three decimals,
+-- right-aligned in 12 characters; 0 is a dot
 abbrev pub cell : Number → List ℕ
 cell x = codes " " ++ right_in 12 (if is_zero_amount x then codes "." else amount x)
 
--- the text of a bound in a column of a table: a blank, and the bound right-aligned in 12
--- characters; for an infinite bound the word `none`, which is -INF or +INF
+-- the text of a bound in a column of a table: a blank, and the bound with three decimals,
+-- right-aligned in 12 characters; 0 is a dot, and an infinite bound is the word `none`, which is
+-- -INF or +INF
 abbrev pub bound_cell : List ℕ → Option Number → List ℕ
 bound_cell none None = codes " " ++ right_in 12 none
 bound_cell none (Some x) = cell x
@@ -107,8 +107,9 @@ ray_mark ray j = if is_zero_amount (number_at_place ray j) then [] else codes " 
 abbrev pub objective_mark : ℕ → ℕ → List ℕ
 objective_mark objective j = if objective == j then codes " NOPT" else []
 
--- the solution that is listed for an end; None if the end has no point. `objective` is the index of
--- the objective's column
+-- the solution that is listed for an end: an optimum, an unbounded end, or an end that was
+-- interrupted in phase 2; None for any other end. `objective` is the index of the objective's
+-- column
 abbrev pub solution_of : ℕ → End Number → Option Solution
 solution_of objective (Optimal levels row_levels duals reduced) =
     Some (record { levels = levels; row_levels = row_levels; duals = duals; reduced = reduced; mark = λ j. [] })
@@ -120,7 +121,14 @@ solution_of objective end = None
 
 -- ---- steps
 
--- the text of the step at which a solver refused, with the numbers that locate it
+-- The text of the step at which a solver refused, with the numbers that locate it. `part` is 0 for
+-- a product or a quotient and 1 for a sum or a difference, except that in `Check` it counts steps
+-- from 0. In `Standard` the row is of the standard form and the column of the program; other rows
+-- are of the dictionary. In `Exchange` the row after the last is the objective, and `column` is 0
+-- for the constant and v + 1 for variable v. In `Recover` `what` is a list of the answer (0: levels
+-- of columns, 1: levels of rows, 2: duals, 3: reduced costs, 4: the ray), `index` is a position in
+-- it, and `entry` is an entry of a row if `what` is 1, else 0; both count from 0. Other numbers
+-- count from 1.
 abbrev pub step_text : StepName → List ℕ
 step_text (step.Standard row column part) =
     codes "Standard row " ++ decimal row ++ codes " column " ++ decimal column ++ codes " part " ++ decimal part
@@ -133,26 +141,29 @@ step_text (step.Check part) = codes "Check part " ++ decimal part
 
 -- ---- the bound that duals give
 
--- for each step of computing the bound that `duals` prove, whether its result fits under the limit.
--- The bound is that of the objective if the Bool is true, or of a sum with costs 0 if it is false
+-- for each step of computing the bound that `duals` prove, whether it fits: no numerator or
+-- denominator that it computes exceeds `limit`. If the Bool is true, the bound is that of the
+-- objective; if it is false, it is the lower bound of a sum whose costs are all 0
 abbrev pub bound_steps_fit : ℕ → Lp Number → List Number → Bool → List Bool
 bound_steps_fit limit lp duals true = steps_of_bound (λ x. x) limit lp.maximize (objective_costs lp) lp duals
 bound_steps_fit limit lp duals false = steps_of_bound (λ x. x) limit false no_costs lp duals
 
--- the line of a bound; none without a bound. If a step of computing the bound does not fit under
--- the limit (Some), the line names the number of that step instead
+-- the line of a bound; empty without a bound. If a step of computing the bound has a numerator or
+-- denominator above the limit, the first argument is the number of this step, from 0, and the line
+-- names it instead
 abbrev pub bound_line : Option ℕ → Option Number → List ℕ
 bound_line (Some part) bound = line_of (codes "  bound not shown, Check part " ++ decimal part)
 bound_line None (Some bound) = line_of (codes "  bound " ++ exact_text bound)
 bound_line None None = []
 
--- the line of the bound that `duals` prove: of the objective if `with_objective`, otherwise of a
--- sum with costs 0; or the line of the first step of computing it that does not fit under the limit
+-- the line of the bound that `duals` prove: if `with_objective`, the bound of the objective,
+-- otherwise the lower bound of a sum whose costs are all 0. If a step of computing the bound has a
+-- numerator or denominator above `limit`, the line names the first such step instead
 abbrev pub bound_lines : ℕ → Lp Number → List Number → Bool → List ℕ
 bound_lines limit lp duals with_objective =
     bound_line (first_unfit (bound_steps_fit limit lp duals with_objective)) (objective_bound (λ x. x) with_objective lp duals)
 
--- the text of a bound of the column whose lower bound is above its upper one
+-- the exact text, after a blank, of a bound of a column whose lower bound is above its upper bound
 abbrev pub crossed_text : Number → List ℕ
 crossed_text bound = codes " " ++ exact_text bound
 
@@ -161,8 +172,8 @@ abbrev pub distinct_names : List ℕ → List ℕ
 distinct_names [] = []
 distinct_names (n ∷ ns) = n ∷ filter (λ m. not (m == n)) (distinct_names ns)
 
--- the line that tells how many of `count` rows or columns (`what`) are not listed, if at most
--- `most` are; none if all are
+-- the line that tells how many of `count` rows or columns follow the first `most`; empty if none
+-- do. `what` is the word for them, rows or columns
 abbrev pub more_text : ℕ → ℕ → List ℕ → List ℕ
 more_text most count what =
     if nat_lt most count then line_of (codes " (" ++ decimal (count - most) ++ codes " more " ++ what ++ codes ")") else []
@@ -174,7 +185,7 @@ module _ (names labels : List (List ℕ)) where
   point_text width key lower level upper marginal mark =
       line_of (codes "  " ++ left_in width (element_text names labels key.symbol key.tuple) ++ bound_cell (codes "-INF") lower ++ cell level ++ bound_cell (codes "+INF") upper ++ cell marginal ++ mark)
 
-  -- the line of the column whose lower bound is above its upper one
+  -- the line of a column whose lower bound is above its upper bound: its element and these bounds
   abbrev pub crossed_line : Column Number → List ℕ
   crossed_line column =
       line_of (codes "  crossed " ++ element_text names labels column.key.symbol column.key.tuple ++ flat_map crossed_text (option_to_list column.lower ++ option_to_list column.upper))
@@ -210,7 +221,8 @@ module _ (names labels : List (List ℕ)) (limit : ℕ) (lp : Lp Number) where
 
   -- ---- rows and columns
 
-  -- the text of a term of a row: its sign, its coefficient's magnitude and its column
+  -- the text of a term of a row, an entry with the column's index and the coefficient: the sign and
+  -- the magnitude of the coefficient, and the element of the column
   abbrev pub term_text : ℕ × Number → List ℕ
   term_text entry =
       (if is_negative entry.1.numerator then codes " - " else codes " + ") ++ amount (number_magnitude entry.1) ++ codes "*" ++ column_text entry.0
@@ -225,7 +237,8 @@ module _ (names labels : List (List ℕ)) (limit : ℕ) (lp : Lp Number) where
   row_text p =
       line_of (codes " " ++ key_text p.1.key ++ codes ".." ++ terms_text p.1.entries ++ sense_text p.1.sense ++ amount p.1.right)
 
-  -- the lines of an equation: its name, its first `most` rows, and how many more there are
+  -- the lines of an equation: its name, its first `most` rows, and how many more it has; if it has
+  -- no rows, a line that says so follows its name
   abbrev pub equation_text : ℕ → ℕ → List ℕ
   equation_text most equation =
       line_of (codes "EQUATION " ++ label_in_table names equation) ++ flat_map row_text (take most (rows_of_equation equation))
@@ -236,7 +249,8 @@ module _ (names labels : List (List ℕ)) (limit : ℕ) (lp : Lp Number) where
   column_entry_line j p =
       flat_map (λ (e : ℕ × Number). line_of (codes "  " ++ amount e.1 ++ codes " " ++ key_text p.1.key)) (filter (λ (e : ℕ × Number). e.0 == j) p.1.entries)
 
-  -- the lines of a column: its element with its bounds, and its coefficient in each row
+  -- the lines of a column: its element with its bounds, and its coefficient in each row that has a
+  -- term of the column
   abbrev pub column_lines : ℕ × Column Number → List ℕ
   column_lines p =
       line_of (codes " " ++ key_text p.1.key ++ codes " lower " ++ rounded_bound_text (codes "-INF") p.1.lower ++ codes " upper " ++ rounded_bound_text (codes "+INF") p.1.upper)
@@ -263,24 +277,27 @@ module _ (names labels : List (List ℕ)) (limit : ℕ) (lp : Lp Number) where
   abbrev pub longest_element : List Key → ℕ
   longest_element keys = fold (λ width key. max (length (key_text key)) width) 0 keys
 
-  -- the line of a row of a solution; `width` is the length of the longest element
+  -- the line of a row in a solution, given the row with its index; the text of the row's element is
+  -- padded to `width` characters
   abbrev pub row_point : Solution → ℕ → ℕ × Row Number → List ℕ
   row_point solution width p =
       point_text names labels width p.1.key (row_lower p.1.sense p.1.right) (number_at_place solution.row_levels p.0) (row_upper p.1.sense p.1.right) (number_at_place solution.duals p.0) []
 
-  -- the line of a column of a solution; `width` is the length of the longest element
+  -- the line of a column in a solution, given the column with its index; the text of the column's
+  -- element is padded to `width` characters
   abbrev pub column_point : Solution → ℕ → ℕ × Column Number → List ℕ
   column_point solution width p =
       point_text names labels width p.1.key p.1.lower (number_at_place solution.levels p.0) p.1.upper (number_at_place solution.reduced p.0) (solution.mark p.0)
 
-  -- the lines of the rows of an equation in a solution; none if it has no rows
+  -- the lines of an equation in a solution: a heading, and a line for each of its rows; empty if it
+  -- has no rows
   abbrev pub equation_points : Solution → ℕ → List ℕ
   equation_points solution equation =
       if length (rows_of_equation equation) == 0 then [] else
       line_of (codes "EQU " ++ label_in_table names equation ++ codes " LOWER LEVEL UPPER MARGINAL")
       ++ flat_map (row_point solution (longest_element (map (λ (p : ℕ × Row Number). p.1.key) (rows_of_equation equation)))) (rows_of_equation equation)
 
-  -- the lines of the columns of a variable in a solution
+  -- the lines of a variable in a solution: a heading, and a line for each of its columns
   abbrev pub variable_points : Solution → ℕ → List ℕ
   variable_points solution variable =
       line_of (codes "VAR " ++ label_in_table names variable ++ codes " LOWER LEVEL UPPER MARGINAL")
@@ -294,8 +311,8 @@ module _ (names labels : List (List ℕ)) (limit : ℕ) (lp : Lp Number) where
 
   -- ---- the proof
 
-  -- the line of one number of a certificate: a word for its part, the element of its row or column,
-  -- and the number x; none if x is 0
+  -- the line of one number of a certificate: `word`, which names the part of the certificate, the
+  -- element of the number's row or column, and the number x; empty if x is 0
   abbrev pub number_line : List ℕ → Key → Number → List ℕ
   number_line word key x =
       if is_zero_amount x then [] else line_of (codes "  " ++ word ++ codes " " ++ key_text key ++ codes " = " ++ exact_text x)
@@ -310,8 +327,8 @@ module _ (names labels : List (List ℕ)) (limit : ℕ) (lp : Lp Number) where
   abbrev pub row_number_lines : List ℕ → List Number → List ℕ
   row_number_lines word numbers = flat_map (λ (p : ℕ × Row Number). number_line word p.1.key (number_at_place numbers p.0)) placed_rows
 
-  -- the lines that prove that no point is feasible: the column whose bounds cross, or a combination
-  -- of rows with its bound
+  -- the lines that prove that no point is feasible: for Some j the line of column j, whose bounds
+  -- cross; for None the combination of rows with the factors `duals`, and its bound
   abbrev pub infeasible_text : List Number → Option ℕ → List ℕ
   infeasible_text duals (Some j) = flat_map (crossed_line names labels) (option_to_list (slice_get lp.columns j))
   infeasible_text duals None = row_number_lines (codes "row") duals ++ bound_lines limit lp duals false
@@ -358,8 +375,9 @@ module _ (names labels : List (List ℕ)) (limit : ℕ) where
   head_text s =
       line_of (codes "---- " ++ decimal s.line ++ codes " SOLVE " ++ label_in_table names s.model ++ direction_text s.lp.maximize ++ column_text names labels limit s.lp s.lp.objective)
 
-  -- the text of a solve with this answer: its first line, rows, columns, summary, solution and
-  -- proof
+  -- the text of a solve with this answer: its first line; the first `limrow` rows of each equation
+  -- and the first `limcol` columns of each variable; the summary; the solution, if `solprint` is
+  -- set; and the proof
   abbrev pub solve_text : Solved → Answer Number → List ℕ
   solve_text s answer =
       head_text s

@@ -18,7 +18,13 @@ use std::alloc::{AllocError, Global};
 
 impl Listing {
     /// Appends the text of the event `e` of a run of the program `p`. The solves of the run have
-    /// these answers, in order.
+    /// these answers, in order. The run computes with numbers whose numerators and denominators are
+    /// at most 2^127 - 1.
+    ///
+    /// Each item that a display or an abort shows must have at most 8 decimals. The linear program
+    /// of a solve must be well-formed. If the solve's answer is optimal, infeasible or unbounded,
+    /// it must have a certificate; if it was interrupted in phase 2, it must have a level for each
+    /// column and row.
     pub fn event(
         &mut self,
         alloc: Global,

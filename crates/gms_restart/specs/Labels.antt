@@ -16,7 +16,7 @@ use Rattle.gms_exec.specs.Assignment.{target_of}
 use Rattle.gms_run_laws.specs.Names.{Each}
 
 abbrev mutual
-  -- the labels among the indices of an expression
+  -- the labels among the indices of all references in an expression, also in the amounts of lags
   pub tree_labels : {F : Type 0} → tree.Tree F → List ℕ
   tree_labels (tree.number n) = []
   tree_labels tree.plus_infinity = []
@@ -61,7 +61,9 @@ condition_labels None = []
 condition_labels (Some condition) = tree_labels condition
 
 module _ {F : Type 0} where
-  -- the labels in the indices, conditions and expressions of an act, also in the body of a loop
+  -- the labels in the indices, the condition and the expressions of an assignment or a definition,
+  -- and in the condition and the body of a loop, where each statement of the body is replaced by
+  -- its labels; none for any other act
   abbrev pub labels_step : Act-F F (List ℕ) (List ℕ) → List ℕ
   labels_step (Act-F.Assign target condition right_at (Value right)) =
       index_labels (target_of target).indices ++ (condition_labels (option_map tree_of condition) ++ tree_labels (tree_of right))
@@ -70,18 +72,19 @@ module _ {F : Type 0} where
   labels_step (Act-F.Loop control body) = control_labels (control_tree control) ++ flat_map (λ labels. labels) body.items
   labels_step act = []
 
-  -- the labels in the indices, conditions and expressions of a statement, also in the body of a
-  -- loop
+  -- the labels in the indices, the condition and the expressions of an assignment or a definition,
+  -- and in the condition and the body of a loop; none for any other statement
   abbrev pub statement_labels : Stmt F → List ℕ
   statement_labels = fold-Stmt F (List ℕ) (List ℕ) labels_step (λ statement. statement.act)
 
--- The numbers of the labels in the indices of these statements, and in the data of the state, are
--- below `count`.
+-- The labels of these statements (`statement_labels`) and those in the data of the state have
+-- numbers below `count`.
 pub record HasItsLabels {F : Type 0} (count : ℕ) (statements : List (Stmt F)) (state : State) : Type 0 where
   pub written : Each (λ label. nat_lt label count) (flat_map statement_labels statements)
   pub given : (name : ℕ) (tuple : List ℕ) → has (given_in (symbol_at state name).content) tuple ≡ true → Each (λ label. nat_lt label count) tuple
 
--- the labels in the indices of a program and in the data of its declarations are in the program's
--- table
+-- the labels of a program's assignments, definitions and loops (`statement_labels`) and those in
+-- the data of its declarations are in the program's table; `value` gives the number that a value of
+-- `F` means
 abbrev pub WritesItsLabels : {F : Type 0} → (F → Number) → Program F → Type 0
 WritesItsLabels value program = HasItsLabels (length program.labels) program.statements.items (loaded value program)

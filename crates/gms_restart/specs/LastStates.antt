@@ -12,22 +12,31 @@ use Rattle.gms_run_laws.specs.Agreeing.{HasAll}
 use Rattle.gms_restart.specs.Restarts.{restarted_run, whole_run}
 use Rattle.lp_core.specs.declared.answer.Answer.{Answer}
 
--- the last state of the run of a program from its first state, with these answers for its solves
+-- the last state of the run of the program of `world` from its first state, that is, the state that
+-- its declarations give, with these answers for its solves, under the limit `limit` of the size of
+-- numbers; `value` gives the number that a value of `F` means
 abbrev pub last_state : {F : Type 0} → (F → Number) → ℕ → World F → List (Answer Number) → State
 last_state value limit world answers = (whole_run value limit world answers).state
 
--- the last state of the run that resumes from the saved state `state` and executes those statements
--- of a joint program that begin at the line `from` or after it, with these answers for its solves
+-- The last state of the run that resumes from the saved state `state`. The program of `world` is
+-- joint: that of a saved source followed by a new file. Executed are those of its statements that
+-- begin at the line `from`, the first of the file, or after it, with these answers for the solves,
+-- under the limit `limit` of the size of numbers. `value` gives the number that a value of `F`
+-- means.
 abbrev pub later_state : {F : Type 0} → (F → Number) → ℕ → ℕ → World F → State → List (Answer Number) → State
 later_state value limit from world state answers = (restarted_run value limit from world state answers).state
 
--- all numbers in the data of a state fit under the limit `most`
+-- All numbers in the data of a state fit under the limit `most` (`fits_at`): the numerator and the
+-- denominator of each are at most `most` in magnitude.
 abbrev pub NumbersFit : ℕ → State → Type 0
 NumbersFit most state = (name : ℕ) (t : List ℕ) → fits_at most (symbol_at state name).content t ≡ true
 
 -- The statements of the program `whole` are `firsts` followed by `others`. The statements `firsts`
--- assign the same names as those of the program `saved`; `whole` has at least as many labels; and
--- its first state has all that the first state of `saved` declares.
+-- assign the same names, in the same order, as those of the program `saved`, and `whole` has at
+-- least as many labels as `saved`. The first state of `whole` has at least as many names as that of
+-- `saved`, the same settings, and for each name that the latter declares the same symbol, with its
+-- data. In its first state (`loaded`) a program has all its names declared, with their data.
+-- `value` gives the number that a value of `F` means.
 pub record ContinuesSaved {F : Type 0} (value : F → Number) (saved whole : Program F) (firsts others : List (Stmt F)) : Type 0 where
   pub statements : whole.statements.items ≡ firsts ++ others
   pub assigns : flat_map assigned_names firsts ≡ flat_map assigned_names saved.statements.items

@@ -10,33 +10,41 @@ use Rattle.gms_save.specs.JointErrors.{resumed, saved_statements}
 use Rattle.lp_core.specs.declared.answer.Answer.{Answer}
 
 module _ {F : Type 0} (value : F → Number) (limit : ℕ) where
-  -- the run of a program from its first state, with these answers for its solves
+  -- the run of the program of `world` from its first state, in which all its names are declared and
+  -- have their data (`loaded`), with these answers for its solves. `limit` bounds the size of
+  -- numbers, and `value` gives the number that a value of `F` means
   abbrev pub whole_run : World F → List (Answer Number) → Course
   whole_run world answers = run_from value limit world (loaded value world.program) answers world.program.statements.items
 
   module _ (from : ℕ) where
-    -- the run of the first statements of a joint program, with these answers for its solves: those
-    -- that begin before the line `from`, the first of the new file
+    -- the run of the first statements of a joint program, that of a saved source followed by a new
+    -- file: the statements that begin before the line `from`, the first of the file. The run begins
+    -- in the first state of the joint program (`loaded`). `answers` are the answers for its solves,
+    -- `limit` bounds the size of numbers, and `value` gives the number that a value of `F` means
     abbrev pub base_run : World F → List (Answer Number) → Course
     base_run joint answers =
         run_from value limit joint (loaded value joint.program) answers (take (length (saved_statements from joint.program)) joint.program.statements.items)
 
-    -- the restarted run of a joint program, with these answers for its solves: the statements that
-    -- begin at the line `from` or after it, from the state that is resumed from the saved state
-    -- `state`
+    -- the restarted run of a joint program, that of a saved source followed by a new file: the
+    -- statements that begin at the line `from`, the first of the file, or after it. The run begins
+    -- in the saved state `state`, to which the names that only the joint program declares are added
+    -- (`resumed`). `answers` are the answers for its solves, `limit` bounds the size of numbers,
+    -- and `value` gives the number that a value of `F` means
     abbrev pub restarted_run : World F → State → List (Answer Number) → Course
     restarted_run joint state answers =
         run_from value limit joint (resumed value state joint.program) answers (drop (length (saved_statements from joint.program)) joint.program.statements.items)
 
-    -- One long run, with the answers of a saved run followed by those of a restarted one, is the
-    -- run of its first statements followed by the restarted run from the last state of the saved
-    -- one. The first statements use as many answers as the saved run did.
+    -- `answers` are those of a saved run of the program of `saved`, and `further` those of a
+    -- restarted run. One long run of the program of `joint`, with `answers` followed by `further`,
+    -- is the run of the program's statements before the line `from` (`base_run`) followed by the
+    -- restarted run from the last state of the saved one. The statements before `from` use as many
+    -- answers as `answers` has.
     pub record SaysTheSame (saved joint : World F) (answers further : List (Answer Number)) : Type 0 where
       pub is : whole_run joint (answers ++ further)
           ≡ run_after (base_run joint (answers ++ further)) (restarted_run joint (whole_run saved answers).state further)
       pub taken : (base_run joint (answers ++ further)).taken ≡ length answers
 
--- the name that a save has for the solver that a state's settings choose; `none` if there is no
--- such solver
+-- the name that a save has for the solver that a state's settings choose among `solvers`; `none` if
+-- there is no such solver
 abbrev pub solver_name : List (List ℕ) → State → List ℕ
 solver_name solvers state = unwrap_or (slice_get solvers state.settings.solver) (codes "none")

@@ -58,7 +58,8 @@ pub fn fits_laws()
 /// Suppose that the statements of the file have no error, and that the long run has the same
 /// solvers. Suppose that the long run, whose first answers are those of the saved run, executes the
 /// saved source's statements without a halt. Then the statements of the file show in the long run
-/// what they show in the restarted run.
+/// what they show in the restarted run: the same events, that is, displays, solves, aborts and
+/// faults, with the indices of their answers shifted by the number of answers of the saved run.
 ///
 /// GAMS User's Guide, "Save and Restart".
 pub fn restart_laws()
@@ -77,17 +78,18 @@ pub fn restart_laws()
 /// In the last state of an accepted program's run each tuple with data is in the domain of its
 /// name: the tuple has as many labels as the name has positions, each label is in the program's
 /// table of labels, and each label is a member of the set at its position, if a set is declared
-/// there (`occur`). So if all numbers of the last state fit under the limit, as the numbers of a
-/// store do, this state is a saved state of the program (`saved`). Both clauses require that the
-/// labels in the program's indices and data are in the program's table, as they are in the program
-/// of a source (`own`).
+/// there (`occur`). So if all numbers of the last state fit under the limit `most` (the numerator
+/// and the denominator of each are at most `most` in magnitude), this state is a saved state of the
+/// program (`saved`). Both clauses require that the labels in the program's indices and data are in
+/// the program's table, as they are in the program of a source (`own`).
 ///
 /// So if the program of a source has no compile errors, the last state of its run is a saved state
 /// of this program, whatever solvers the run has (`last`). A run of the joint program, of the saved
 /// source followed by a file, may begin in the state that is resumed from a saved state, so the
 /// laws of whole runs hold for this run (`begins`). The last state of such a run is a saved state
 /// of the joint program (`later`). The last two clauses require that the statements of the file
-/// have no error, and `last` and `later` that all numbers of the last state fit.
+/// have no error, and `last` and `later` that all numbers of the last state fit under `frac_limit`.
+/// The solver's name in a saved state is any text that has the form of such a name.
 ///
 /// GAMS User's Guide, "Save and Restart"; "Set Definition", domain checking.
 pub fn valid_laws<F: ExactField>()

@@ -1,10 +1,9 @@
 -- A step under a limit that fits is the step without limit, and so is a chain of such steps.
-use Rattle.std.proofs.Common.{◌≡◌, ℕ, Bool, true, false, ◌&&◌, if◌then◌else◌, [], ◌∷◌, ◌++◌, Some, Ok, Err, ℤ, pos, negsuc, zero, suc, nat_abs, ◌==◌, refl, ap, ◌∙◌, arith}
+use Rattle.std.proofs.Common.{◌≡◌, ℕ, Bool, true, false, if◌then◌else◌, [], ◌∷◌, ◌++◌, Some, Ok, Err, ℤ, pos, negsuc, zero, suc, nat_abs, ◌==◌, refl, ap, ◌∙◌, arith}
 use Rattle.std.proofs.lemmas.Bool.{eqb-true}
 use Rattle.gms_labels.specs.declared.place.Place.{Place}
-use Rattle.gq_number.specs.Number.{Number, whole, ◌+ℚ◌, ◌-ℚ◌, ◌*ℚ◌, ◌/ℚ◌, neg_ℚ}
+use Rattle.gq_number.specs.Number.{Number, ◌+ℚ◌, ◌-ℚ◌, ◌*ℚ◌, ◌/ℚ◌, neg_ℚ}
 use Rattle.gq_number.proofs.Ring.{ring_ℚ}
-use Rattle.gq_number.proofs.Quotients.{zero_from_numerator}
 use Rattle.gq_field.specs.Fits.{fits, sum_fits}
 use Rattle.gq_extended.specs.Extended.{Extended, number, plus_infinity, minus_infinity, na, Outcome, number_if, is_zero, negated, sum, difference, product, quotient}
 use Rattle.gq_extended.specs.declared.fault.ExtendedFault.TheVariants.{Divide}

@@ -8,13 +8,13 @@ use Rattle.std.proofs.lemmas.Map.Views.{any-filter_same}
 use Rattle.gms_labels.specs.declared.place.Place.{Place}
 use Rattle.gq_number.specs.Number.{Number, whole, ◌+ℚ◌, ◌-ℚ◌, ◌*ℚ◌, ◌/ℚ◌, inv_ℚ}
 use Rattle.gq_number.specs.Sums.{sum_by_ℚ}
-use Rattle.gq_number.proofs.Field.{+ℚ-zero, *ℚ_comm, *ℚ_assoc, /ℚ_is}
+use Rattle.gq_number.proofs.Field.{+ℚ-zero, *ℚ_comm, /ℚ_is}
 use Rattle.gq_number.proofs.Ring.{ring_ℚ, zero-*ℚ}
 use Rattle.gq_number.proofs.Sums.{sum_by_ℚ-nil, sum_by_ℚ-filter, sum_by_ℚ-+ℚ, sum_by_ℚ--ℚ, sum_by_ℚ-*ℚ_right}
 use Rattle.gq_extended.specs.Extended.{Extended}
 use Rattle.gq_extended.specs.Extended as extended
 use Rattle.gms_eval.specs.Bindings.{Pairs}
-use Rattle.gms_eval.specs.Faults.{Answer, faulted}
+use Rattle.gms_eval.specs.Faults.{faulted}
 use Rattle.gms_eval.specs.declared.stop.StopKind.TheVariants.{Divide}
 use Rattle.lp_form.specs.declared.key.Key.{Key}
 use Rattle.lp_form.specs.Keys.{key_cmp, same_key, AreOrdered}

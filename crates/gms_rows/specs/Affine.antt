@@ -33,8 +33,8 @@ is_plain other = false
 module _ {F : Type 0} (state : State) where
   abbrev mutual
     -- whether a variable without a suffix, whose value is unknown, occurs in an expression;
-    -- conditions, relations, operands of logic and amounts of lags are not searched, since an
-    -- accepted program has no such variable there
+    -- conditions, relations, operands of logic, powers, arguments of functions and amounts of lags
+    -- are not searched, since an accepted program has no such variable there
     pub has_variables : tree.Tree F → Bool
     has_variables (tree.reference at name suffix indices) = is_plain suffix && is_variable_content (symbol_at state name).content
     has_variables (tree.fold_over at op control body) = has_variables body
@@ -56,13 +56,14 @@ module _ {F : Type 0} (state : State) where
 
 -- ---- sums and products
 
--- the constant form of a value; the fault Undefined at this place if it is no number
+-- the constant form of a value; if the value is no number, the fault Undefined at this place, which
+-- reports the binding of sets to labels
 abbrev pub form_of : Place → Pairs → Extended → Answer Form
 form_of at binding (number x) = Ok (constant_form x)
 form_of at binding x = Err (faulted Undefined at binding x nothing)
 
--- the place in the source of a term or factor with this mark; line 0 and column 0 if the mark has
--- no place
+-- the place in the source of a term or factor with this mark; line 0 and column 0 if the mark is
+-- not `signed`
 abbrev pub part_place : Mark → Place
 part_place (signed at inverse) = at
 part_place mark = record { line = 0; column = 0 }
@@ -89,14 +90,17 @@ abbrev pub joined_forms : Join → Option Form → List (Mark × Answer Form) �
 joined_forms join so_far [] = Ok (unwrap_or so_far zero_form)
 joined_forms join so_far (part ∷ parts) = part.1 and_then λ form. with_next join part.0 so_far form and_then λ next. joined_forms join (Some next) parts
 
--- the constant form of the number to which the step joins these values from the left, or the first
--- fault; None without values
+-- the constant form of the number to which `step` joins these marked values from the left; None
+-- without values; or the first fault, which is Undefined at the first operand, with the binding of
+-- sets to labels, if the joined value is no number
 abbrev pub prefix : Pairs → ValueStep → Marked → Answer (Option Form)
 prefix binding step [] = Ok None
 prefix binding step (first ∷ rest) = chain step (first ∷ rest) and_then λ x. form_of (part_place first.0) binding x and_then λ form. Ok (Some form)
 
 -- the form of a sum or a product: the first `count` operands, which have no variables, are joined
--- as values, and each later one by a step on forms
+-- as values by `step`, and each later one by `join`, a step on forms; or the first fault. `values`
+-- and `forms` have the values and the forms of all operands, each with its mark. The fault
+-- Undefined of the joined values has the binding `binding` of sets to labels.
 abbrev pub chained : Pairs → ValueStep → Join → ℕ → Marked → List (Mark × Answer Form) → Answer Form
 chained binding step join count values forms = prefix binding step (take count values) and_then λ so_far. joined_forms join so_far (drop count forms)
 
@@ -120,13 +124,17 @@ element_form name None = zero_form
 element_form name (Some t) = column_form (record { symbol = name; tuple = t })
 
 module _ {F : Type 0} (number_of : F → Number) (limit : ℕ) (state : State) where
-  -- the constant form of an expression without variables, whose first character is at this place
+  -- the constant form of an expression without variables, whose first character is at this place,
+  -- under a binding of sets to labels; or the first fault, which is Undefined at this place if the
+  -- value is no number
   abbrev pub form_of_constant : Place → Pairs → tree.Tree F → Answer Form
   form_of_constant at binding e = value number_of limit state binding e and_then form_of at binding
 
   abbrev mutual
-    -- the form of an expression with variables, whose first character is at this place, under a
-    -- binding of sets to labels
+    -- the form of an expression that contains a variable without suffix, and whose first
+    -- character is at this place, under a binding of sets to labels; or the first fault. Each fold
+    -- is taken as a sum (with variables in their bodies the others are not linear), and an operand
+    -- under a guard that does not hold as the form 0.
     pub linear : Place → Pairs → tree.Tree F → Answer Form
     linear at binding (tree.reference place name suffix indices) =
         in_order (labels number_of limit state binding indices) and_then λ those. Ok (element_form name (tuple_of those))

@@ -25,12 +25,13 @@ sets_of_definition d = distinct_numbers (sets_among d.indices)
 abbrev pub bound_to : {F : Type 0} → Definition F → List ℕ → Pairs
 bound_to d element = controlled [] (sets_of_definition d) element
 
--- the members of each of these sets are distinct and in order
+-- the members of each of these sets, which are tuples of labels, are distinct and ascend in the
+-- order of tuples (`tuple_cmp`): label by label, a proper prefix first
 abbrev pub AreInOrder : State → List ℕ → Type 0
 AreInOrder state sets = All (λ set. IsOrdered (members_of state set)) sets
 
--- The indices of a definition are labels and sets without lags, and the members of these sets are
--- in order and have one label each.
+-- The indices of a definition are labels and sets without lags, and the members of these sets have
+-- one label each, are distinct, and ascend in the order of tuples (`AreInOrder`).
 pub record HasPlainSets {F : Type 0} (state : State) (d : Definition F) : Type 0 where
   pub plain : ArePlain state d.indices
   pub ordered : AreInOrder state (sets_of_definition d)
@@ -43,13 +44,14 @@ module _ {F : Type 0} (number_of : F → Number) (limit : ℕ) (state : State) w
   holds_for binding (Some condition) = holds number_of limit state binding condition
 
   -- the tuple of a definition's row at an element of its sets; None if one of the indices has no
-  -- label
+  -- label; or the first fault
   abbrev pub tuple_at : Definition F → List ℕ → Answer (Option (List ℕ))
   tuple_at d element = in_order (labels number_of limit state (bound_to d element) d.indices) and_then λ those. Ok (tuple_of those)
 
-  -- A row of a definition belongs to this element: the element is one of the definition's sets, the
-  -- condition holds for it, and the row has the definition's equation and sense, and the tuple and
-  -- the form at this element.
+  -- A row of a definition belongs to this element: the element is one of the product of the
+  -- definition's sets, the condition holds for it, and the row has the definition's equation and
+  -- sense, the tuple of the indices at this element, and the form of the left side less the right
+  -- one at this element (`row_form`).
   pub record IsRowOf (d : Definition F) (row : FormRow) (element : List ℕ) : Type 0 where
     pub there : has (elements state (sets_of_definition d)) element ≡ true
     pub holds : holds_for (bound_to d element) d.condition ≡ Ok true

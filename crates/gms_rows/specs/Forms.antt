@@ -27,7 +27,8 @@ keyed value [] numbers = []
 keyed value (key ∷ keys) [] = []
 keyed value (key ∷ keys) (x ∷ numbers) = (key, value x) ∷ keyed value keys numbers
 
--- the affine form that a form of the code, by its lists of keys and of values, represents
+-- the affine form that an `Affine` of the code represents, by its constant and its lists of keys
+-- and of values; `value` gives the number that a value means
 abbrev pub form_in : {F : Type 0} → (F → Number) → Affine F → Form
 form_in value form =
     record { constant = value form.constant; numbers = finite.from_entries {R = key_cmp} (keyed value form.keys form.numbers) }
@@ -66,8 +67,10 @@ numbers_at number_at keys =
 abbrev pub keys_of_two : Form → Form → List Key
 keys_of_two a b = finite.keys (finite.from_entries {R = key_cmp} (finite.entries a.numbers ++ finite.entries b.numbers))
 
--- Ok: the form with the results of the step on the constant and of the step at each key. Err: the
--- first step that does not fit, that of the constant (None) or of a key; the constant comes first.
+-- A step has a resulting number, and a flag whether its integers stay within a limit, that is,
+-- whether it fits. Ok: the form with the results of the step `constant` on the constant and of the
+-- step `at` at each of these keys; a key with the result 0 is left out. Err: the first step that
+-- does not fit, that of the constant (None) or of a key; the constant comes first.
 abbrev pub entrywise : Step → (Key → Step) → List Key → Result Form (Option Key)
 entrywise constant at keys =
     if not constant.fits then Err None else
@@ -76,13 +79,15 @@ entrywise constant at keys =
       | None ↦ Ok (record { constant = constant.number; numbers = numbers_at (λ key. (at key).number) keys })
     ]
 
--- a binary step applied to the constants of two forms, and to their numbers at each key
+-- a binary step applied to the constants of two forms, and to their numbers at each key of either,
+-- with the result of `entrywise`: the form of the results, or the first step that does not fit
 abbrev pub entries_of_two : (Number → Number → Step) → Form → Form → Result Form (Option Key)
 entries_of_two step a b =
     entrywise (step a.constant b.constant) (λ key. step (number_of_key a key) (number_of_key b key)) (keys_of_two a b)
 
 -- a binary step with the number x as its right operand, applied to the constant of a form and to
--- the form's number at each key
+-- the form's number at each key, with the result of `entrywise`: the form of the results, or the
+-- first step that does not fit
 abbrev pub entries_by : (Number → Number → Step) → Form → Number → Result Form (Option Key)
 entries_by step a x = entrywise (step a.constant x) (λ key. step (number_of_key a key) x) (finite.keys a.numbers)
 
@@ -91,33 +96,39 @@ abbrev pub number_in_form : Form → Option Key → Extended
 number_in_form form None = number form.constant
 number_in_form form (Some key) = number (number_of_key form key)
 
--- the resulting form; or the fault Limit at this place, with the left and right operand of the step
--- that does not fit
+-- the resulting form; or the fault Limit at this place, under this binding of sets to labels, of
+-- the step that does not fit: `left` and `right` give its operands, by its key, or None for the
+-- step on the constant
 abbrev pub where_fits : Place → Pairs → (Option Key → Extended) → (Option Key → Extended) → Result Form (Option Key) → Answer Form
 where_fits at binding left right (Ok form) = Ok form
 where_fits at binding left right (Err key) = Err (faulted Limit at binding (left key) (right key))
 
 module _ (limit : ℕ) (at : Place) (binding : Pairs) where
   -- the sum of the forms `a` and `b`, or, if `subtracts` is true, their difference; or the fault
-  -- Limit
+  -- Limit of the first addition or subtraction, on the constants or on the numbers at a key, that
+  -- exceeds the limit of the size of numbers
   abbrev pub sum_of_forms : Bool → Form → Form → Answer Form
   sum_of_forms subtracts a b =
       where_fits at binding (number_in_form a) (number_in_form b) (entries_of_two (if subtracts then difference_step limit else sum_form_step limit) a b)
 
   -- a form times a number, or, if `divides` is true, over a number other than 0; or the fault Limit
+  -- if a product or a quotient exceeds the limit of the size of numbers
   abbrev pub scaled_form : Bool → Form → Number → Answer Form
   scaled_form divides a x =
       where_fits at binding (number_in_form a) (λ key. number x) (entries_by (if divides then quotient_step limit else product_form_step limit) a x)
 
-  -- a number times a form: in each step the number is the left operand, and the right one is of the
-  -- form
+  -- a number times a form; or, if a product exceeds the limit of the size of numbers, the fault
+  -- Limit, whose left operand is the number, and whose right one is the form's constant or its
+  -- number at a key
   abbrev pub multiple : Number → Form → Answer Form
   multiple x a = where_fits at binding (λ key. number x) (number_in_form a) (entries_by (product_form_step limit) a x)
 
-  -- the product of two forms, one of which is constant
+  -- the product of two forms, one of which is constant; or the fault Limit if a product of their
+  -- numbers exceeds the limit of the size of numbers
   abbrev pub product_of_forms : Form → Form → Answer Form
   product_of_forms a b = if is_number b then scaled_form false a b.constant else multiple a.constant b
 
-  -- a form over a number; the fault Divide if the number is 0, and Limit if a quotient does not fit
+  -- a form over a number; the fault Divide if the number is 0, and Limit if a quotient exceeds the
+  -- limit of the size of numbers
   abbrev pub quotient_of : Form → Number → Answer Form
   quotient_of a x = if is_not_zero x then scaled_form true a x else Err (faulted Divide at binding (number a.constant) (number x))

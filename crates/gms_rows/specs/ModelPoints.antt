@@ -40,14 +40,15 @@ is_there (Ok labels) = is_some (tuple_of labels)
 is_there (Err fault) = false
 
 module _ {F : Type 0} (number_of : F → Number) (limit : ℕ) (state : State) (point : Key → Number) where
-  -- under a binding of sets to labels, the left side of a definition compares with the right one at
-  -- the point as the equation says
+  -- under a binding of sets to labels, both sides of a definition are numbers at the point, and the
+  -- left one compares with the right one as `=e=`, `=l=` or `=g=` says (`=n=`: any two numbers do)
   abbrev pub SidesCompare : Definition F → Pairs → Type 0
   SidesCompare d binding =
       Compare d.side (value_at number_of limit state point binding d.left) (value_at number_of limit state point binding d.right)
 
-  -- the point satisfies a definition: the sides compare for each element of the definition's domain
-  -- at which the indices have a tuple
+  -- The point satisfies a definition. Its domain is the elements of its sets for which its
+  -- condition, if any, holds. If the domain has no fault, then for each element of it at which the
+  -- indices have a tuple, both sides are numbers and compare as the equation says (`SidesCompare`).
   abbrev pub KeepsDefinition : Definition F → Type 0
   KeepsDefinition d = (elements : List (List ℕ)) → domain number_of limit state [] d.at (control_over (sets_of_definition d) d.condition) ≡ Ok elements →
       All (λ element. is_there (in_order (labels number_of limit state (bound_to d element) d.indices)) ≡ true → SidesCompare d (bound_to d element)) elements

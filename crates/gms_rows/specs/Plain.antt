@@ -13,6 +13,7 @@ ArePlain state (tree.label label rest) = ArePlain state rest
 ArePlain state (tree.set set rest) = All (λ t. length t ≡ 1) (members_of state set) × ArePlain state rest
 ArePlain state (tree.lagged set op at amount rest) = ⊥
 
--- the indices of each definition of a program are labels and sets of one dimension without lags
+-- the indices of each definition of a program are labels and sets without lags, and each member of
+-- these sets has one label
 abbrev pub HasPlainDefinitions : {F : Type 0} → State → List (Stmt F) → Type 0
 HasPlainDefinitions {F} state statements = All (λ (d : Definition F). ArePlain state d.indices) (definitions statements)

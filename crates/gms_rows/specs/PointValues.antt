@@ -51,14 +51,15 @@ exact_quotient x y = quotient 0 x y
 
 module _ (binding : Pairs) where
   -- the step that joins the sum so far, x, with the next term: their sum, or their difference if
-  -- the term's mark says that it is subtracted
+  -- the term's mark says that it is subtracted; if the mark is not `signed`, only the next term
   abbrev pub exact_sum_step : ValueStep
   exact_sum_step (signed at subtracts) x answer =
       answer and_then λ y. taken at binding x y (if subtracts then exact_difference x y else exact_sum x y)
   exact_sum_step mark x answer = answer
 
   -- the step that joins the product so far, x, with the next factor: their product, or their
-  -- quotient if the factor's mark says that it divides
+  -- quotient if the factor's mark says that it divides; if the mark is not `signed`, only the next
+  -- factor
   abbrev pub exact_product_step : ValueStep
   exact_product_step (signed at divides) x answer =
       answer and_then λ y. taken at binding x y (if divides then exact_quotient x y else exact_product x y)
@@ -77,8 +78,9 @@ module _ (binding : Pairs) where
   abbrev pub exact_fold_step : FoldOp → Place → ValueStep
   exact_fold_step op at mark x answer = answer and_then λ y. exact_join op at x y
 
-  -- the values of a fold's bodies, joined in sequence; the fault EmptyExtreme for a greatest or a
-  -- least of none
+  -- the values of a fold's bodies, joined in sequence, from 0 for Sum and 1 for Prod (`start_of`);
+  -- without a body, that number, or for Smin and Smax the fault EmptyExtreme at this place; or the
+  -- first fault
   abbrev pub exact_folded : FoldOp → Place → Marked → Answer Extended
   exact_folded op at bodies =
       nodes.joined (exact_fold_step op at) (Err (faulted EmptyExtreme at binding nothing nothing)) (start_of op) bodies
@@ -94,7 +96,7 @@ element_at point name (Some t) = number (point (record { symbol = name; tuple = 
 module _ {F : Type 0} (number_of : F → Number) (limit : ℕ) (state : State) (point : Key → Number) where
   abbrev mutual
     -- the value of an expression with variables, which are read at the point, under a binding of
-    -- sets to labels
+    -- sets to labels; or the first fault. An operand under a guard that does not hold is 0.
     pub read_at : Pairs → tree.Tree F → Answer Extended
     read_at binding (tree.reference at name suffix indices) =
         in_order (labels number_of limit state binding indices) and_then λ those. Ok (element_at point name (tuple_of those))
@@ -114,7 +116,7 @@ module _ {F : Type 0} (number_of : F → Number) (limit : ℕ) (state : State) (
     values_at binding (tree.part mark part rest) =
         (mark, (if has_variables state part then read_at binding part else value number_of limit state binding part)) ∷ values_at binding rest
 
-  -- the value of an expression at the point, under a binding of sets to labels
+  -- the value of an expression at the point, under a binding of sets to labels; or the first fault
   abbrev pub value_at : Pairs → tree.Tree F → Answer Extended
   value_at binding e = if has_variables state e then read_at binding e else value number_of limit state binding e
 
@@ -139,15 +141,18 @@ module _ {F : Type 0} (state : State) where
   are_later_factors (tree.part mark part rest) =
       if has_variables state part then not (is_inverse mark) && not (some_has_variables state rest) else are_later_factors rest
 
-  -- whether of the factors of a product at most one has variables, and that one does not divide
+  -- whether of the factors of a product at most one has variables, and that one, unless it is the
+  -- first, does not divide
   abbrev pub are_factors : tree.Parts F → Bool
   are_factors tree.no_part = true
   are_factors (tree.part mark part rest) =
       if has_variables state part then not (some_has_variables state rest) else are_later_factors rest
 
   abbrev mutual
-    -- whether an expression is linear in the variables: in a product at most one factor, and no
-    -- divisor, has variables; of folds, only the body of a sum may have them
+    -- whether an expression is linear in the variables: in a product at most one factor has
+    -- variables, and no divisor after the first factor has any; of folds, only the body of a sum
+    -- may have them; each operand of a sum or a product is marked as a term or a factor
+    -- (`is_signed`). An expression of any other form is linear.
     pub is_linear : tree.Tree F → Bool
     is_linear (tree.fold_over at op control body) = not (has_variables state body) || (is_sum_fold op && is_linear body)
     is_linear (tree.negated operand) = is_linear operand
@@ -156,7 +161,8 @@ module _ {F : Type 0} (state : State) where
     is_linear (tree.guarded operand guards) = is_linear operand
     is_linear other = true
 
-    -- whether each term of a sum or factor of a product is linear in the variables
+    -- whether each term of a sum or factor of a product is linear in the variables and has the mark
+    -- of a term or a factor (`is_signed`)
     pub are_linear : tree.Parts F → Bool
     are_linear tree.no_part = true
     are_linear (tree.part mark part rest) = is_signed mark && (is_linear part && are_linear rest)

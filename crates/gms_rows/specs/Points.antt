@@ -1,6 +1,5 @@
 -- The value of a form at a point, which gives each element of a variable a number (Chvatal, "Linear
 -- Programming", chapter 1).
-use Rattle.std.specs.Prelude.{List}
 use Rattle.std.specs.FinMap as finite
 use Rattle.gq_number.specs.Number.{Number, ◌+ℚ◌, ◌*ℚ◌}
 use Rattle.gq_number.specs.Sums.{sum_by_ℚ}

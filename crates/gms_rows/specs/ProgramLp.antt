@@ -41,7 +41,8 @@ abbrev pub placed : List Key → FormRow → Row Number
 placed keys row =
     record { key = row.key; sense = row.sense; right = neg_ℚ row.form.constant; entries = map (λ entry. (place_of_key keys entry.0, entry.1)) (finite.entries row.form.numbers) }
 
--- the linear program that has these rows, and the element `objective` to maximize or minimize
+-- the linear program that has these rows, the columns of their elements and of `objective` with the
+-- bounds in the state, and `objective` to maximize, or, if `maximize` is false, to minimize
 abbrev pub program_of : State → List FormRow → Key → Bool → Lp Number
 program_of state rows objective maximize =
     let keys = column_keys rows objective in
@@ -49,7 +50,8 @@ program_of state rows objective maximize =
 
 -- ---- the size of its standard form
 
--- the fault of too many rows or columns at a solve; the reported count is at most `most_counted`
+-- the fault of too many rows or columns at a solve; the reported count is at most 2^64 - 1
+-- (`most_counted`)
 abbrev pub too_many : StopKind → Place → ℕ → Fault
 too_many kind at count =
     record { kind = kind; at = at; binding = []; left = nothing; right = nothing; count = min count most_counted }
@@ -62,8 +64,10 @@ sized_program at lp =
     if nat_lt 3000 (standard_columns lp) then Err (too_many TooManyColumns at (standard_columns lp)) else
     Ok lp
 
--- The linear program of a solve at a place, in a state: the rows of the model, and the objective, a
--- variable without indices; or the first fault.
+-- The linear program of a solve at a place, in a state, to maximize if `maximize` is true, else to
+-- minimize: the rows of the model, and the objective, a variable without indices; or the first
+-- fault, also that of a size that is too large (`sized_program`). `number_of` gives the number that
+-- a value of `F` means, and `limit` is the limit of the size of numbers.
 abbrev pub program_lp : {F : Type 0} → (F → Number) → ℕ → State → List (Stmt F) → ℕ → ℕ → Bool → Place → Answer (Lp Number)
 program_lp number_of limit state statements model objective maximize at =
     rows_of_model number_of limit state statements model and_then λ rows. sized_program at (program_of state rows (record { symbol = objective; tuple = [] }) maximize)

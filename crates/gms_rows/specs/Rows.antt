@@ -97,8 +97,8 @@ module _ {F : Type 0} where
   models_of (Model models) = models
   models_of act = []
 
-  -- the equations of a model, by its first declaration in these statements, before which the
-  -- equations `declared` are declared; empty if the model is not declared
+  -- the equations of a model, by its first declaration in these statements, where `declared` has
+  -- the equations that are declared before the statements; empty if they do not declare the model
   abbrev pub equations_from : List ℕ → ℕ → List (Stmt F) → List ℕ
   equations_from declared name [] = []
   equations_from declared name (s ∷ statements) =
@@ -154,7 +154,8 @@ module _ {F : Type 0} (number_of : F → Number) (limit : ℕ) (state : State) w
       affine number_of limit state d.right_at binding d.right and_then λ right.
       sum_of_forms limit d.right_at binding true left right
 
-  -- the row of a definition under a binding of sets to labels; None if the indices have no tuple
+  -- the row of a definition under a binding of sets to labels; None if the indices have no tuple;
+  -- or the first fault
   abbrev pub row_under : Definition F → Pairs → Answer (Option FormRow)
   row_under d binding =
       in_order (labels number_of limit state binding d.indices) and_then λ those.
@@ -164,7 +165,8 @@ module _ {F : Type 0} (number_of : F → Number) (limit : ℕ) (state : State) w
       ]
 
   -- the rows of a definition, one for each element of its domain at which the indices have a tuple;
-  -- or the first fault
+  -- or the first fault. The domain is the elements of the definition's sets for which its
+  -- condition, if any, holds.
   abbrev pub rows_of_definition : Definition F → Answer (List FormRow)
   rows_of_definition d =
       let sets = distinct_numbers (sets_among d.indices) in

@@ -100,10 +100,11 @@ fn program_of<F: ExactField>(
 /// each element of their domains at which their conditions hold; the columns of the objective and
 /// of the elements of variables that occur in the rows, with their bounds; and the objective.
 ///
-/// `at` is the place of the solve. The error is out of memory, or a stop: the first fault of the
-/// rows; else `TooManyRows` if the standard form has over 1,500 rows; else `TooManyColumns` if the
-/// standard form has over 3,000 variables. GAMS User's Guide, "Equations", "Model and Solve
-/// Statements".
+/// `at` is the place of the solve. The indices of each definition of the program must be labels and
+/// sets without lags, whose members have one label each. The error is out of memory, or a stop: the
+/// first fault of the rows; else `TooManyRows` if the standard form has over 1,500 rows; else
+/// `TooManyColumns` if the standard form has over 3,000 variables. GAMS User's Guide, "Equations",
+/// "Model and Solve Statements".
 pub fn generate<F: ExactField>(
     alloc: Global,
     store: &Store<F>,

@@ -26,11 +26,11 @@ ghost use Rattle.gms_rows.specs.Rows.{Definition, FormRow, rows_of_definition};
 
 use gq_field::ExactField;
 
-/// A definition whose indices are labels and sets without lags, where the members of these sets are
-/// in order and have one label, has exactly one row for each element of its sets whose condition
-/// holds. Each row is that of such an element. At the tuple of an element whose condition holds
-/// there is one row; at that of any other element there is none. No two rows have the same key.
-/// GAMS User's Guide, "Equations", "Conditional Equations".
+/// A definition whose indices are labels and sets without lags, where the stored members of these
+/// sets have one label each and are strictly sorted by its number, has exactly one row for each
+/// element of its sets whose condition holds. Each row is that of such an element. At the tuple of
+/// an element whose condition holds there is one row; at that of any other element there is none.
+/// No two rows have the same key. GAMS User's Guide, "Equations", "Conditional Equations".
 pub fn row_laws<F: ExactField>()
     ensures sources { (state : State) (d : Definition F) (rows : List FormRow) → HasPlainSets state d →
         rows_of_definition F.value F.limit state d ≡ Ok rows →
@@ -66,10 +66,11 @@ pub fn form_laws<F: ExactField>()
 
 /// What the linear program of a solve says of a point, which gives each element of a variable a
 /// number. The form of an expression that is linear in the variables is at each point the value of
-/// the expression with its variables read there. The points that satisfy the model are exactly the
-/// feasible points of the program. A point satisfies a model if at each element of the domain of
-/// each of its equations the left side compares with the right one as `=e=`, `=l=` or `=g=` says,
-/// and each variable of the program is within its bounds.
+/// the expression with its variables read there. If both sides of each definition of the model are
+/// linear in the variables, the points that satisfy the model are exactly the feasible points of
+/// the program. A point satisfies a model if at each element of the sets of each of its definitions
+/// for which the condition, if any, holds, the left side compares with the right one as `=e=`,
+/// `=l=` or `=g=` says, and each variable of the program is within its bounds.
 ///
 /// GAMS User's Guide, "Equations", "Model and Solve Statements"; Chvatal, "Linear Programming",
 /// chapter 1.

@@ -29,12 +29,14 @@ use std::alloc::Global;
 /// The affine form of an expression in a state: a constant, and a coefficient for each element of a
 /// variable. The binding `b` gives each controlled set its label.
 ///
-/// The expression is linear in the variables, and its first character is at `at`. The form of an
-/// operand without variables is the constant of its value. The operands of a sum or a product
-/// before the first with variables are joined as values; if the result is no number, the stop is
-/// `Undefined` at the first of them. All other steps are done entry by entry, the constant first;
-/// the first step whose result does not fit under the field's limit is a stop. The error is the
-/// first stop, or out of memory. GAMS User's Guide, "Equations".
+/// Callers pass an expression that is linear in the variables, though no contract states this. `at`
+/// is the place of its first character. The operands of a sum or a product before the first with
+/// variables are joined as values; if the result is no number, the stop is `Undefined` at the first
+/// of them. The form of any other operand without variables, or of an expression without them, is
+/// the constant of its value; if the value is no number, the stop is `Undefined` at its place. All
+/// other steps are done entry by entry, the constant first; the first step that computes a number
+/// beyond the field's limit is a stop. The error is the first stop, or out of memory. GAMS User's
+/// Guide, "Equations".
 #[cycle(affine)]
 pub fn affine<F: ExactField>(
     alloc: Global,

@@ -30,22 +30,23 @@ use Rattle.gms_run.specs.Statuses.{IsFileOf, with_source_read, with_file}
 -- ---- runs
 
 -- The run of a program: its statements in order, from the state that its declarations give. Each
--- solve takes the next of the answers that the solvers gave. A `Solving` has the solvers' names and
--- rules, before the run and after it, and these answers.
+-- solve takes the next of the answers that the solvers gave. A `Solving` has the solvers before the
+-- run and after it, with their names, and these answers.
 abbrev pub run_of : Program Frac → Solving → Course
 run_of program solving =
     run_from frac_value frac_limit (record { program = program; solvers = solving.before.names }) (loaded frac_value program) (numbers_of solving.answers) program.statements.items
 
 -- ---- listings
 
--- The source is no program, and `text` is its listing, which names the first fault.
+-- The source is no program, and `text` is its listing, which numbers the lines from 1 and names the
+-- first fault.
 pub record IsFaultListing (source text : List ℕ) : Type 0 where
   pub fault : SourceFault
   pub is_first : IsSourceFault frac_limit source fault
   pub listing : text ≡ refused_listing 1 source fault
 
--- The source is a program that has compile errors, and `text` is its listing, which has each of
--- them.
+-- The source is a program that has compile errors, with solvers of the names `solvers`, and `text`
+-- is its listing, with the lines numbered from 1, which has each of the errors.
 pub record IsErrorListing (solvers : List (List ℕ)) (source text : List ℕ) : Type 0 where
   pub program : Program Frac
   pub is_program : IsProgram frac_limit source frac_value program
@@ -68,8 +69,8 @@ pub record IsRunListing (status : Status) (solving : Solving) (source text : Lis
   pub ends : HaltsSo status (run_of program solving).halted
   pub listing : text ≡ run_listing program.names program.labels frac_limit 1 source (numbers_of solving.answers) (all_events (run_of program solving)) (status_code status)
 
--- the text is the listing of the source, for a run that ends with this status; with the last three
--- statuses there is no such text
+-- the text is the listing of the source, for a run that ends with this status; with Compile nothing
+-- was solved, and with the last three statuses there is no such text
 abbrev pub IsListingOf : Status → Solving → List ℕ → List ℕ → Type 0
 IsListingOf Done solving source text = IsRunListing Done solving source text
 IsListingOf Execution solving source text = IsRunListing Execution solving source text
@@ -79,8 +80,8 @@ IsListingOf Usage solving source text = ⊥
 IsListingOf ReadFault solving source text = ⊥
 IsListingOf WriteFault solving source text = ⊥
 
--- whether a run with this status writes the whole listing; after a write fault the output may have
--- a prefix of it
+-- whether a run with this status surely writes the whole listing; after a write fault the output
+-- has a prefix of it, or all of it
 abbrev pub HasListing : Status → Type 0
 HasListing Done = Unit {0}
 HasListing Compile = Unit {0}
@@ -91,14 +92,15 @@ HasListing WriteFault = ⊥
 
 -- ---- the headline
 
--- the request for a FILE alone, whose listing goes to the output of this name
+-- the request for a FILE alone, whose listing goes to the output of this name, without a save, and
+-- without sensitivity ranges (the flag `--ranges`)
 abbrev pub file_alone : List ℕ → List ℕ → Asked
 file_alone file output = record { source = in_file file; output = output; save = None; ranges = false }
 
 -- A run changes what is outside from `old` to `new` so: the whole listing of the source in a file
 -- is written to the output, and the output is closed. Then the closing line is printed: the status,
 -- how many answers there are, and the name of the output. Nothing else is changed outside, except
--- that the file is read.
+-- that the file is read. If the host hides its files, the source may be any bytes (`IsFileOf`).
 pub record WritesListing (status : Status) (solving : Solving) (old new : Outside) (file output : List ℕ) : Type 0 where
   pub source : List ℕ
   pub is_source : IsFileOf old file source

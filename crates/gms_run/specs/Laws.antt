@@ -16,8 +16,9 @@ use Rattle.gms_run.specs.Listings.{IsExecuted, IsProgramToRun, IsListing, SavesL
 abbrev pub with_statements : ProgramToRun → List (Stmt Frac) → ProgramToRun
 with_statements to_run statements = record to_run { statements = statements }
 
--- the run of further statements, which are in no loop, from the state that the run `course` has
--- reached
+-- the run of further statements of the program, which are in no loop, from the state that the run
+-- `course` has reached, with the solvers' names in `solving` and the answers that remain in
+-- `course`; a halted course is unchanged
 abbrev pub run_on : ProgramToRun → Solving → Course → List (Stmt Frac) → Course
 run_on to_run solving course statements =
     in_sequence (map (of_statement frac_value frac_limit (record { program = to_run.program; solvers = solving.before.names })) statements) [] course
@@ -31,11 +32,13 @@ RunsJoin = (to_run : ProgramToRun) (solving : Solving) (first others : List (Stm
 -- ---- answers
 
 -- If a run with these solvers and answers, from its start or from a save, executed the input, then
--- each of its answers is right.
+-- each of its answers is right (`HasRightAnswers`): what it says is true of the model as it is
+-- written, with the data at the moment of the solve.
 abbrev pub RunIsAnsweredRightly : Solving → Type 0
 RunIsAnsweredRightly solving = (taken : RunInput) (loaded_input : LoadedInput) (text : List ℕ) → IsLoadedInput solving.before.names taken loaded_input → (run : IsExecuted solving loaded_input text) → HasRightAnswers run.to_run solving
 
--- the law that each answer of each run that executed its input is right
+-- the law that each answer of each run that executed its input is right (`RunIsAnsweredRightly`),
+-- whatever the solvers and the answers (`solving`) are
 abbrev pub RunsAreAnsweredRightly : Type 0
 RunsAreAnsweredRightly = (solving : Solving) → RunIsAnsweredRightly solving
 
@@ -63,7 +66,8 @@ pub record IsLongRun (first second long : Solving) (source file : List ℕ) (to_
   pub same_solvers : long.before.names ≡ first.before.names
   pub answers : long.answers ≡ first.answers ++ second.answers
 
--- the part of the long run that executes the statements of the saved source
+-- the part of the long run that executes the statements of the saved source: those that begin
+-- before the line of the joint source at which the file begins (`first_line`)
 abbrev pub base_course : List ℕ → ProgramToRun → Solving → Course
 base_course source to_run long = course_of (first_of (length (saved_statements (first_line source) to_run.program)) to_run) long
 
@@ -75,8 +79,8 @@ pub record SaysBoth (first second long : Solving) (source file : List ℕ) (rest
   pub taken : (base_course source to_run long).taken ≡ length first.answers
   pub keeps : (bytes : List ℕ) → SavesLast second restart.loaded_input bytes → SavesLast long (scripted (script_of (joint_source source file))) bytes
 
--- the law that each restart says the same as one long run, if the long run executes the saved
--- source's statements to their end
+-- the law that a saved run and its restart together say what one long run of the joint source says
+-- (`SaysBoth`), if the long run executes the saved source's statements to their end
 abbrev pub RestartsSayTheSame : Type 0
 RestartsSayTheSame = (first second long : Solving) (source file : List ℕ) (restart : IsRestart first second source file) (to_run : ProgramToRun) →
     IsLongRun first second long source file to_run → (base_course source to_run long).halted ≡ None → SaysBoth first second long source file restart to_run

@@ -28,13 +28,15 @@ use Rattle.gms_run.specs.ProgramsToRun.{ProgramToRun, program_to_run, course_of,
 
 -- ---- what is accepted
 
--- The source of the script is this program, which has no error, with solvers of these names.
+-- The source of the script is this program, which has no error, with solvers of these names. A
+-- script is a source to run: a file alone, or a saved source followed by a file, with the saved
+-- state. In the latter case the errors are those of a joint program (`errors_of_script`).
 pub record IsAcceptedScript (solvers : List (List ℕ)) (script : Script) (program : Program Frac) : Type 0 where
   pub is_program : IsProgram frac_limit script.source frac_value program
   pub no_error : errors_of_script script.saved script.line program solvers ≡ []
 
--- The loaded input is an accepted script, with solvers of these names, and `to_run` is what is run
--- of it.
+-- The loaded input is a script that is accepted with solvers of these names, and `to_run` has its
+-- program, the state from which the program is run, and the statements to run (`program_to_run`).
 pub record IsProgramToRun (solvers : List (List ℕ)) (loaded_input : LoadedInput) (to_run : ProgramToRun) : Type 0 where
   pub script : Script
   pub of_script : loaded_input ≡ scripted script
@@ -67,14 +69,16 @@ pub record ShowsRefusal (script : Script) (text : List ℕ) : Type 0 where
   pub refused : IsSourceFault frac_limit script.source fault
   pub listing : text ≡ refused_listing script.line script.file fault
 
--- The source is a program with errors, and the text is the listing of all of them.
+-- The source is a program with errors, with solvers of the names `solvers`, and the text is the
+-- listing of all of them.
 pub record ShowsErrors (solvers : List (List ℕ)) (script : Script) (text : List ℕ) : Type 0 where
   pub program : Program Frac
   pub is_program : IsProgram frac_limit script.source frac_value program
   pub some : errors_of_script script.saved script.line program solvers ≢ []
   pub listing : text ≡ errors_listing script.line script.file (errors_of_script script.saved script.line program solvers)
 
--- the text is the listing that says why the loaded input is not run
+-- The text is the listing that says why the loaded input is not run, with solvers of these names:
+-- the fault or the errors of a script, or the fault of a save that cannot be restored.
 abbrev pub ShowsWhy : List (List ℕ) → LoadedInput → List ℕ → Type 0
 ShowsWhy solvers (scripted script) text = ShowsRefusal script text ⊎ ShowsErrors solvers script text
 ShowsWhy solvers (unrestored fault) text = text ≡ refused_text (unrestored_text fault)
@@ -93,7 +97,8 @@ pub record IsExecuted (solving : Solving) (loaded_input : LoadedInput) (text : L
   pub solved : IsRunSolved to_run solving
   pub listing : text ≡ program_listing to_run solving
 
--- the run of the program halts as a run with this status does
+-- the run of the program halts as a run with this status does (`HaltsSo`): with Done not at all,
+-- with Execution by a fault; false for any other status
 abbrev pub EndsSo : (status : Status) (solving : Solving) (loaded_input : LoadedInput) (text : List ℕ) → IsExecuted solving loaded_input text → Type 0
 EndsSo status solving loaded_input text run = HaltsSo status (course_of run.to_run solving).halted
 
@@ -107,8 +112,9 @@ IsListing Usage solving loaded_input text = ⊥
 IsListing ReadFault solving loaded_input text = ⊥
 IsListing WriteFault solving loaded_input text = ⊥
 
--- The text is the expected listing of the loaded input, of which `written` bytes were written: the
--- listing of a refusal, or that of a run which is cut off after these bytes.
+-- The text is the whole listing that is expected of the loaded input, of which only the first
+-- `written` bytes were written: that of a refusal, for any `written`, or that of a run which ends
+-- because writing failed after `written` bytes (`IsCutOff`).
 abbrev pub IsWrittenPrefix : Solving → LoadedInput → List ℕ → ℕ → Type 0
 IsWrittenPrefix solving loaded_input text written =
     IsRefusalListing solving loaded_input text ⊎ ((run : IsExecuted solving loaded_input text) × IsCutOff run.to_run solving written)
@@ -137,11 +143,13 @@ SavesSo status solving request loaded_input bytes = IfSome (save_file status req
 
 -- ---- the closing lines
 
--- the number of the model status of the model `t` in a state; 0 if the program has no such name
+-- the number of the model status of `t`, as generated programs name their model, in a state; 0 if
+-- the program has no such name
 abbrev pub model_status : Program Frac → State → ℕ
 model_status program state = unwrap_or (option_map (λ model. (statuses_in (symbol_of state model).content).0) (place_of program.names (codes "t"))) 0
 
--- the level of the variable `z` in a state; 0 if the program has no such name
+-- the level of `z`, as generated programs name their objective, in a state; 0 if the program has no
+-- such name
 abbrev pub objective_level : Program Frac → State → Number
 objective_level program state = unwrap_or (option_map (λ variable. (attributes_of state variable []).level) (place_of program.names (codes "z"))) (whole (pos 0))
 
@@ -182,27 +190,28 @@ abbrev pub solves_of : ProgramToRun → Solving → List Solved
 solves_of to_run solving = solves_in (course_of to_run solving).events
 
 -- The solves of the run take the answers in order, one each. The text says, from their linear
--- programs and these answers, how far each right side and each cost of each optimum may move.
+-- programs and these answers, how far each right side and each cost of each optimum may move by
+-- itself while the optimum's basis remains optimal; it numbers the solves from 1.
 pub record TellsSpans (solving : Solving) (loaded_input : LoadedInput) (text : List ℕ) : Type 0 where
   pub to_run : ProgramToRun
   pub is_to_run : IsProgramToRun solving.before.names loaded_input to_run
   pub in_order : places_of (solves_of to_run solving) ≡ range_with_len 0 (length solving.answers)
   pub said : SaysRanges to_run.program.names to_run.program.labels frac_limit 1 (programs_of (solves_of to_run solving)) (numbers_of solving.answers) text
 
--- the text printed with `--ranges`: the ranges of the solves of a run with this status; empty if
--- nothing was run
+-- the text printed with `--ranges`: the sensitivity ranges of the solves of a run with this status
+-- (`TellsSpans`); empty with a status other than Done and Execution
 abbrev pub TellsRangesOf : Status → Solving → LoadedInput → List ℕ → Type 0
 TellsRangesOf Done solving loaded_input text = TellsSpans solving loaded_input text
 TellsRangesOf Execution solving loaded_input text = TellsSpans solving loaded_input text
 TellsRangesOf _ solving loaded_input text = text ≡ []
 
--- the text printed of ranges: empty if they are not requested
+-- the text printed of the sensitivity ranges of a run's solves: empty if they are not requested
 abbrev pub TellsRanges : Bool → Status → Solving → LoadedInput → List ℕ → Type 0
 TellsRanges true status solving loaded_input text = TellsRangesOf status solving loaded_input text
 TellsRanges false status solving loaded_input text = text ≡ []
 
--- the remarks on a run, which are printed before the closing line: the ranges of its solves, if
--- they are requested, and a line on a generated model
+-- the remarks on a run, which are printed before the closing line: the sensitivity ranges of its
+-- solves, if they are requested, and a line on a generated model that was run (`TellsRun`)
 abbrev pub AreRemarks : Status → Solving → Asked → LoadedInput → List ℕ → Type 0
 AreRemarks status solving request loaded_input remarks =
     (ranges line : List ℕ) × TellsRanges request.ranges status solving loaded_input ranges × TellsRun status solving request.source loaded_input line × (remarks ≡ ranges ++ line)

@@ -28,7 +28,9 @@ pub record ProgramToRun : Type 0 where
   pub file : List ℕ
   pub line : ℕ
 
--- the program to run of a script whose source is this program
+-- The program to run of a script whose source is this program. Without a saved state all statements
+-- are run, from the state that the declarations give. With a saved state those after the saved
+-- source are run, from that state with the names added that only the program declares.
 abbrev pub program_to_run : Script → Program Frac → ProgramToRun
 program_to_run script program =
     record { program = program; state = first_state script.saved program; statements = statements_to_run script.saved script.line program; source = script.source; file = script.file; line = script.line }
@@ -45,8 +47,9 @@ course_of to_run solving =
     run_from frac_value frac_limit (record { program = to_run.program; solvers = solving.before.names }) to_run.state (numbers_of solving.answers) to_run.statements
 
 -- The run takes all answers. Each solve has an answer of the linear program that its model means at
--- that point, under the rule of the solver that is chosen there. No search that has pivots enough
--- for that rule is interrupted. The pivots of each answer are appended to the paths of its solver.
+-- that point, under the rule of the solver that is chosen there. No search whose limit of pivots
+-- is enough for that rule is interrupted. The paths of a solver are the lists of pivots of its
+-- answers; the pivots of each answer are appended to the paths of its solver.
 pub record IsRunSolved (to_run : ProgramToRun) (solving : Solving) : Type 0 where
   pub all_taken : (course_of to_run solving).left ≡ []
   pub answered : AreAnswered frac_value frac_limit solving.before.rules solving.answers (course_of to_run solving).events
@@ -77,8 +80,8 @@ HaltsSo _ halted = ⊥
 
 -- ---- the text of a run
 
--- the last line of a listing, by how the run halts and how many solves it has; empty for a run that
--- waits for an answer
+-- the last line of a listing, by how the run halts and how many solves it has: with status 0 if the
+-- run does not halt, and with status 3 if a fault stops it; empty if it waits for an answer
 abbrev pub last_line : Option Halt → ℕ → List ℕ
 last_line None solves = end_text 0 solves
 last_line (Some (stopped fault)) solves = end_text 3 solves
@@ -112,16 +115,18 @@ save_text to_run solving =
 abbrev pub most_held : ℕ
 most_held = 4096
 
--- After a write fault `written` bytes of the listing are written. For some number `before`, the
--- first `before + 1` statements take all answers, and of the listing of the first `before` at most
--- the last 4,096 bytes are not written.
+-- After a write fault `written` bytes of the listing of `to_run` are written. For some number
+-- `before`, the solves of its first `before + 1` statements use all answers of `solving`. Of the
+-- echo and the text that the first `before` statements show, at most the last 4,096 bytes
+-- (`most_held`) are not written.
 pub record IsWrittenUpTo (to_run : ProgramToRun) (solving : Solving) (written : ℕ) : Type 0 where
   -- how many statements are before the last executed one
   pub before : ℕ
   pub taken : (course_of (first_of (before + 1) to_run) solving).left ≡ []
   pub held : length (body_of (first_of before to_run) solving) ≤ written + most_held
 
--- only `written` bytes of a program's listing were written: nothing was solved, or at most one
--- statement was executed beyond those whose listing is written except for its last 4,096 bytes
+-- only `written` bytes of a program's listing were written. Either nothing was solved; or the
+-- listing of some first statements lacks at most its last 4,096 bytes, and the solves of these and
+-- of one more statement use all answers (`IsWrittenUpTo`)
 abbrev pub IsCutOff : ProgramToRun → Solving → ℕ → Type 0
 IsCutOff to_run solving written = SolvesNothing solving ⊎ IsWrittenUpTo to_run solving written

@@ -49,23 +49,23 @@ joint_script saved state file =
     record { source = joint_source saved file; file = file; line = first_line saved; saved = Some state }
 
 -- The script is that of the file after the source that was restored from the save, with solvers of
--- these names.
+-- these names. The save is not too long.
 pub record IsJoint (solvers : List (List ℕ)) (save file : List ℕ) (script : Script) : Type 0 where
   pub saved : Saved
   pub short : length save ≤ most_save_bytes
   pub restored : IsRestored solvers save saved
-  -- any state that has this save is the one that was restored
+  -- any state that has this save is the one that was restored, except for the index of the solver
   pub back : GivesBack solvers save (let r : Result Saved SaveFaultOrMemory = Ok saved in r)
   pub joint : script ≡ joint_script saved.source.items saved.store file
 
--- The save cannot be restored, with solvers of these names: it has this fault, and it is the save
--- of no state.
+-- The save cannot be restored, with solvers of these names: it has this fault (`answer`). If it is
+-- the save of a state, the fault is SaveTooLong or SaveSolver, and its cause holds (`back`).
 pub record IsUnrestored (solvers : List (List ℕ)) (save : List ℕ) (fault : SaveFault) : Type 0 where
   pub answer : Restores solvers save (let r : Result Saved SaveFaultOrMemory = Err (Fault fault) in r)
   pub back : GivesBack solvers save (let r : Result Saved SaveFaultOrMemory = Err (Fault fault) in r)
 
--- what loading the input gives, with solvers of these names: the script of a source, or after a
--- save its joint script or its fault
+-- what loading the input gives, with solvers of these names: the script of a source that is run
+-- from its start, or, if a file resumes from a save, the joint script, or the fault of the save
 abbrev pub IsLoadedInput : List (List ℕ) → RunInput → LoadedInput → Type 0
 IsLoadedInput solvers (from_start source) (scripted script) = script ≡ script_of source
 IsLoadedInput solvers (from_start source) (unrestored fault) = ⊥
@@ -74,20 +74,21 @@ IsLoadedInput solvers (from_save save file) (unrestored fault) = IsUnrestored so
 
 -- ---- programs of scripts
 
--- the errors of a program; in a restarted run, only those of the file, which begins at the line
--- `line`
+-- the errors of a program, with solvers of these names. In a restarted run the errors Restart of
+-- the file, which begins at the line `line`, may be among them: the file declares a saved variable
+-- as a variable again, or assigns a saved set that the saved source does not assign
 abbrev pub errors_of_script : Option State → ℕ → Program Frac → List (List ℕ) → List CompileError
 errors_of_script None line program solvers = compile_errors frac_value program solvers
 errors_of_script (Some state) line program solvers = joint_errors frac_value program line solvers
 
--- the state in which a program begins: that of its declarations, or in a restarted run the saved
--- one resumed
+-- the state in which a program begins: that of its declarations with their data, or in a restarted
+-- run the saved one, to which `resumed` adds the names that only the program declares
 abbrev pub first_state : Option State → Program Frac → State
 first_state None program = loaded frac_value program
 first_state (Some state) program = resumed frac_value state program
 
--- the statements that are run: all, or in a restarted run those after the saved source, which ends
--- before the line `line`
+-- the statements that are run: all, or in a restarted run those after the saved source, whose
+-- statements begin before the line `line`
 abbrev pub statements_to_run : Option State → ℕ → Program Frac → List (Stmt Frac)
 statements_to_run None line program = program.statements.items
 statements_to_run (Some state) line program = drop (length (saved_statements line program)) program.statements.items

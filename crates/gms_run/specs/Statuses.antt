@@ -28,8 +28,10 @@ use Rattle.gms_run.specs.Listings.{IsProgramToRun, IsListing, IsWrittenPrefix, A
 abbrev pub IsFileOf : Outside → List ℕ → List ℕ → Type 0
 IsFileOf o file bytes = IfSome o.files (λ files. files_map.get files file ≡ Some bytes)
 
--- the input is that of a request: the bytes of a file, or of a save and a file, or the text of a
--- generated model
+-- the input is that of a request: the bytes of a file, the bytes of a save and of the file that
+-- resumes from it, or the text of the generated model with `size` plants and `size` markets, and
+-- `size` as its seed; no other input is. If the host hides its files, any bytes may be those of a
+-- file
 abbrev pub IsInputOf : Outside → Origin → RunInput → Type 0
 IsInputOf o (in_file file) (from_start source) = IsFileOf o file source
 IsInputOf o (restarted saved file) (from_save save source) = IsFileOf o saved save × IsFileOf o file source
@@ -37,7 +39,8 @@ IsInputOf o (generated size) (from_start source) = source ≡ generated_model_te
 IsInputOf o origin taken = ⊥
 
 -- the host's state after a file with these bytes was read: its name was requested, the input is
--- open, and at most the first `most` of the bytes were taken
+-- open (`reading`), and at most the first `most` of the bytes were read. `input` has the others, or
+-- is None if the host does not expose them
 abbrev pub with_read : ℕ → Outside → List ℕ → List ℕ → Outside
 with_read most o file bytes =
     record (with_asked o (file ∷ [])) { input = option_map (λ _. drop most bytes) o.input; reading = true }
@@ -78,7 +81,8 @@ IsUnreadOf old new (restarted saved file) name =
     ((name ≡ saved) × IsUnread old new saved) ⊎ ((name ≡ file) × ((save : List ℕ) × (IsFileOf old saved save × IsUnread (with_saved old saved save) new file)))
 IsUnreadOf old new (generated size) name = ⊥
 
--- A file of the request could not be read, and the read fault line was printed.
+-- A file of the request could not be read; then the read fault line was printed, or a prefix of it
+-- and a fault of writing was counted.
 pub record IsReadFault (old new : Meaning) (request : Asked) : Type 0 where
   pub file : List ℕ
   pub before : Outside
@@ -95,8 +99,8 @@ with_listing o output text = with_output (with_opened o output) text
 abbrev pub with_file : Outside → List ℕ → List ℕ → Outside
 with_file o output text = with_kept (with_listing o output text)
 
--- the output of this name could not be opened: no output is open, its bytes are empty, and its name
--- was requested or not
+-- the output of this name could not be opened: no output is open (`false`), the bytes of this one
+-- are empty, and its name was requested or not
 abbrev pub IsUnopenedFile : Outside → Outside → List ℕ → Type 0
 IsUnopenedFile old new name = (new ≡ with_emptied old false) ⊎ (new ≡ with_asked (with_emptied old false) (name ∷ []))
 
@@ -107,8 +111,9 @@ pub record AddsPrefix (old new : Outside) (bytes : List ℕ) : Type 0 where
   pub split : bytes ≡ added ++ missing
   pub outside : new ≡ with_output old added
 
--- the output of this name could not be opened, or it has a prefix of these bytes, or it has all of
--- them and closing it failed
+-- the output of this name could not be opened; or a prefix of these bytes was added to it; or all
+-- of them were, and closing it failed: no output is open (`writing` is false), and this one is not
+-- kept
 abbrev pub IsUnwrittenFile : Outside → Outside → List ℕ → List ℕ → Type 0
 IsUnwrittenFile old new name bytes =
     IsUnopenedFile old new name ⊎ (AddsPrefix (with_opened old name) new bytes ⊎ (new ≡ record (with_listing old name bytes) { writing = false }))
@@ -144,22 +149,24 @@ pub record IsUnopened (solving : Solving) (old new : Outside) (request : Asked) 
   pub none : SolvesNothing solving
   pub outside : IsUnopenedFile old new request.output
 
--- The expected listing of the loaded input, `text`, was not written whole: a prefix of it was added
--- to the opened output.
+-- Of the expected listing of the loaded input, `text`, a prefix was added to the output, which was
+-- open in the state `opened`. The listing is that of a refusal, or that of a run which is cut off
+-- after this prefix.
 pub record IsUnwritten (solving : Solving) (opened new : Outside) (loaded_input : LoadedInput) : Type 0 where
   pub text : List ℕ
   pub prefix : AddsPrefix opened new text
   pub expected : IsWrittenPrefix solving loaded_input text (length prefix.added)
 
--- The whole listing was written, but closing the output failed.
+-- The whole listing was written, but closing the output failed: no output is open (`writing` is
+-- false), and this one is not kept.
 pub record IsUnclosed (solving : Solving) (old new : Outside) (request : Asked) (loaded_input : LoadedInput) : Type 0 where
   pub status : Status
   pub text : List ℕ
   pub listing : IsListing status solving loaded_input text
   pub outside : new ≡ record (with_listing old request.output text) { writing = false }
 
--- The whole listing was written, and its output is closed and kept. The save of the last state was
--- not written whole to its file, or closing that file failed.
+-- The whole listing was written, and its output is closed and kept. The file for the save of the
+-- last state could not be opened, or it has a prefix of the save, or closing it failed.
 pub record IsUnsaved (solving : Solving) (old new : Outside) (request : Asked) (loaded_input : LoadedInput) : Type 0 where
   pub status : Status
   pub text : List ℕ
@@ -182,7 +189,9 @@ pub record IsUnsaid (solving : Solving) (old new : Outside) (request : Asked) (l
   pub closing : AreClosing status solving request loaded_input lines
   pub beginning : PrintsPrefix (with_save (with_file old request.output text) (save_file status request) save) new lines
 
--- the run could not write all, and got as far as one of these five states says
+-- the run could not write all, and ended in one of five states: the output could not be opened, a
+-- prefix of the listing was written, closing the output failed, the save was not written, or a
+-- prefix of the closing lines was printed
 abbrev pub IsWriteFault : Solving → Outside → Outside → Asked → LoadedInput → Type 0
 IsWriteFault solving old new request loaded_input =
     IsUnopened solving old new request
@@ -208,13 +217,15 @@ pub record IsRunOf (status : Status) (solving : Solving) (old new : Outside) (re
   pub is_loaded_input : IsLoadedInput solving.before.names taken loaded_input
   pub ran : RanSo status solving (with_taken old request.source taken) new request loaded_input
 
--- what a run with this status did for the request
+-- what a run with this status did for the request: with ReadFault a file could not be read, and
+-- nothing was solved; with any other status the input was run
 abbrev pub OfRequest : Status → Solving → Meaning → Meaning → Asked → Type 0
 OfRequest ReadFault solving old new request = IsReadFault old new request × SolvesNothing solving
 OfRequest status solving old new request = IsRunOf status solving old.outside new.outside request
 
--- what a run of these arguments with this status did: refused arguments request nothing, and the
--- usage line is printed
+-- what a run of these arguments with this status did: with Usage the arguments are no request, the
+-- usage line was printed (as `SaysLine` states), and nothing was solved; with any other status they
+-- are a request, and `OfRequest` says what was done for it
 abbrev pub IsRun : Status → Solving → List (List ℕ) → Meaning → Meaning → Type 0
 IsRun Usage solving words old new = (request_of words ≡ None) × (SaysLine old new old.outside usage_line × SolvesNothing solving)
 IsRun status solving words old new = (request : Asked) × ((request_of words ≡ Some request) × OfRequest status solving old new request)
@@ -222,8 +233,9 @@ IsRun status solving words old new = (request : Asked) × ((request_of words ≡
 -- ---- the counts of faults
 
 -- how the counts of faults change in a run with this status: with ReadFault that of reading rises,
--- with WriteFault that of writing; with Done, Compile and Execution a precise host counts none;
--- with Usage nothing is claimed
+-- with WriteFault that of writing (a count at its greatest value may stay); with Done, Compile and
+-- Execution they are unchanged if the host is precise (it counts a fault only in a call that
+-- answers with one); with Usage nothing is claimed
 abbrev pub CountsSo : Status → Counts → Counts → Type 0
 CountsSo Usage old new = Unit {0}
 CountsSo ReadFault old new = Rose old.read_faults new.read_faults
@@ -242,7 +254,8 @@ HasOrigin o (in_file file) = IsThere o file
 HasOrigin o (restarted saved file) = IsThere o saved × IsThere o file
 HasOrigin o (generated size) = Unit {0}
 
--- The host is reliable, and if it exposes its files, it has those that the arguments request.
+-- The host is reliable (no call answers with a fault, except one that opens an input which no file
+-- has), and if it exposes its files, it has those that the arguments request.
 pub record IsReadyFor (old : Meaning) (words : List (List ℕ)) : Type 0 where
   pub reliable : old.counts.reliable ≡ true
   pub there : IfSome (request_of words) (λ request. HasOrigin old.outside request.source)
@@ -253,23 +266,26 @@ pub record IsReadyFor (old : Meaning) (words : List (List ℕ)) : Type 0 where
 abbrev pub HasFile : Outside → List ℕ → List ℕ → Type 0
 HasFile o file bytes = (files : Files) × (o.files ≡ Some files) × (files_map.get files file ≡ Some bytes)
 
--- the input is what a host that exposes its files has for a request: the bytes of files, or the
--- text of a generated model
+-- the input is what a host that exposes its files has for a request: the bytes of a file, the bytes
+-- of a save and of the file that resumes from it, or the text of the generated model with `size`
+-- plants and `size` markets, and `size` as its seed; no other input is
 abbrev pub IsContentOf : Outside → Origin → RunInput → Type 0
 IsContentOf o (in_file file) (from_start source) = HasFile o file source
 IsContentOf o (restarted saved file) (from_save save source) = HasFile o saved save × HasFile o file source
 IsContentOf o (generated size) (from_start source) = source ≡ generated_model_text size size size
 IsContentOf o origin taken = ⊥
 
--- The source of the script is a program without errors: it has a program with this view, and no
--- program with this view has an error.
+-- The source of the script is a program without errors, with solvers of these names: it has a
+-- program with this view (names, labels and statements), and no program with this view has an
+-- error.
 pub record IsGood (solvers : List (List ℕ)) (script : Script) : Type 0 where
   pub view : ProgramView
   pub has_program : HasProgram frac_limit script.source view
   pub no_error : (program : Program Frac) → program_view frac_value program ≡ view → errors_of_script script.saved script.line program solvers ≡ []
 
 -- The save can be restored, with solvers of these names: it is not too long, it is the save of a
--- state of a program, and one of the solvers has the name that the save has.
+-- state of a program, and one of the solvers has the name that the save has, or there is no solver
+-- and the save has the name `none`.
 pub record IsGoodSave (solvers : List (List ℕ)) (save : List ℕ) : Type 0 where
   pub short : length save ≤ most_save_bytes
   pub source : List ℕ

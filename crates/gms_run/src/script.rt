@@ -27,7 +27,7 @@ pub(crate) struct Script<'a> {
     pub joint: bool,
 }
 
-/// What loading the input gives.
+/// What loading the input gives: a source to run, or the fault of a save that cannot be restored.
 #[derive(Clone, Copy)]
 pub(crate) enum LoadedInput<'a> {
     /// A source.

@@ -42,7 +42,8 @@ pub struct Ended {
 
 /// Writes the listing of the loaded input to the output that a request names, and closes it. Then
 /// it saves the last state, if that is requested, and prints the closing lines: the remarks on the
-/// run, and the last line.
+/// run, and the last line. Returns the status of the run; the error is a failed write, or out of
+/// memory.
 fn write_report<H: Host>(
     alloc: Global,
     host: &mut H,
@@ -373,12 +374,13 @@ fn run_words<H: Host>(
 /// Runs `gams25` on the arguments of its command line, without the program's name, over a host.
 ///
 /// The arguments are those of a `clap` command: an optional FILE, `--out` with the name of the
-/// listing, `--generate` with a number from 1 to 30, `--save` and `--restart` with the name of a
-/// file each, and the flag `--ranges`. Exactly one of FILE and `--generate` is given, and
-/// `--restart` goes only with FILE. The source is read, or generated, before the output is opened.
-/// The listing is written to the output statement by statement. After the output is closed the
-/// closing lines are printed (docs/LISTING.md); with `--ranges` they begin with how far each right
-/// side and each cost of each optimum may move.
+/// output, the listing's file, `--generate` with a number from 1 to 30, `--save` and `--restart`
+/// with the name of a file each, and the flag `--ranges`. Exactly one of FILE and `--generate` is
+/// given, and `--restart` goes only with FILE. The source is read, or generated, before the output
+/// is opened. The listing is written to the output statement by statement. After the output is
+/// closed the closing lines are printed (docs/LISTING.md); with `--ranges` they begin with how far
+/// each right side and each cost of each optimum may move by itself while the optimum's basis
+/// remains optimal.
 ///
 /// With `--restart` the file of this option, a save, is read before FILE, and FILE resumes from the
 /// state that the save has: the source is the saved source followed by FILE; the lines of FILE are
@@ -401,16 +403,22 @@ fn run_words<H: Host>(
 /// is the text of that run. Compile: the source is refused, or the save cannot be restored, and the
 /// listing says why. Usage: the arguments request no source. ReadFault: a file was not read.
 /// WriteFault: how far the run came; if something was solved, all answers are used by the
-/// statements whose text was written and at most one statement more, except for the last 4,096
-/// bytes. The solvers keep their names and rules, and the pivots of each answer are appended to the
-/// paths of the solver that gave it; with Usage, Compile and ReadFault nothing is solved. There are
-/// fewer than 2^32 solvers.
+/// statements whose text was written, except for at most its last 4,096 bytes, and by at most one
+/// statement more. The solvers keep their names and rules, and the pivots of each answer are
+/// appended to the paths of the solver that gave it; with Usage, Compile and ReadFault nothing is
+/// solved. There are fewer than 2^32 solvers.
 ///
 /// The clauses `usage`, `compile` and `execution` state exactly when a run ends with Usage, Compile
 /// and Execution, the last two over a host that exposes its files, if no fault is met. A run ends
 /// with Execution exactly if the run that the source means is stopped by an execution error, with
 /// the answers that the solvers give in this run. Later statements read these answers, so the
 /// answers may decide whether an error occurs.
+///
+/// The clauses `counts`, `steady` and `no_fault` speak of the faults of the host that the host
+/// counts: failed reads and failed writes. A host is ready (`IsReadyFor`) if none of its calls has
+/// a fault, except one that opens an input which no file has, and if it has the files that the
+/// arguments request or hides its files. The clause `complete`: if the arguments name a program
+/// without errors, or a generated model, and no fault is met, the run ends with Done or Execution.
 ///
 /// What the clauses leave open: the error `AllocError` means out of memory, here or in the host.
 /// Then only `steady` holds, and the output may have a prefix of a listing. If the host hides its

@@ -1,8 +1,6 @@
 -- A program that continues a saved one begins with all that the saved one begins with.
 use Rattle.std.proofs.lemmas.Bool.{not-false, not-true}
-use Rattle.std.proofs.Common.{◌≡◌, ℕ, ◌≤◌, Bool, true, false, not, List, ◌++◌, length, refl, sym, ap, ap₂, ◌∙◌, subst}
-use Rattle.std.specs.Prelude.{flat_map}
-use Rattle.std.specs.List.{fold}
+use Rattle.std.proofs.Common.{◌≡◌, ℕ, ◌≤◌, Bool, true, false, List, ◌++◌, length, refl, sym, ap₂, ◌∙◌, subst}
 use Rattle.gq_number.specs.Number.{Number}
 use Rattle.gms_ast.specs.declared.program.Stmt.{Stmt}
 use Rattle.gms_store.specs.declared.settings.Settings.{Settings}

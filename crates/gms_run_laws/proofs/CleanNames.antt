@@ -1,5 +1,5 @@
 -- What has no error names what is declared alone.
-use Rattle.std.proofs.Common.{◌≡◌, ℕ, Bool, true, false, not, List, [], ◌∷◌, ◌++◌, Option, Some, None, refl, sym, ap, ◌∙◌}
+use Rattle.std.proofs.Common.{◌≡◌, ℕ, Bool, false, not, List, [], ◌∷◌, ◌++◌, Option, Some, None, ap}
 use Rattle.std.specs.List.{list_any}
 use Rattle.gms_labels.specs.declared.place.Place.{Place}
 use Rattle.gms_ast.specs.Trees as tree

@@ -1,7 +1,7 @@
 -- The names that a statement of a program assigns are assigned by the program, so that each reached
 -- state is later than the first.
 use Rattle.std.proofs.lemmas.Bool.{or_left, or_right}
-use Rattle.std.proofs.Common.{◌≡◌, ℕ, zero, suc, Bool, true, false, ◌||◌, ◌==◌, List, [], ◌∷◌, ◌++◌, map, Vec, refl, sym, ap, ◌∙◌, subst, eq-eqb}
+use Rattle.std.proofs.Common.{◌≡◌, ℕ, zero, suc, Bool, true, ◌==◌, List, [], ◌∷◌, ◌++◌, map, Vec, refl, sym, ap, ◌∙◌, subst, eq-eqb}
 use Rattle.std.specs.Prelude.{flat_map}
 use Rattle.std.specs.declared.alloc.Global.{Global}
 use Rattle.gq_number.specs.Number.{Number}

@@ -1,5 +1,5 @@
 -- The data of a name stay tidy: after an assignment, a level and a marginal, and statuses.
-use Rattle.std.proofs.Common.{◌≡◌, ℕ, Bool, true, false, not, ◌||◌, ◌==◌, cond, List, [], ◌∷◌, map, reverse, length, pos, Option, Some, None, unwrap_or, is_some, refl, sym, ap, ◌∙◌, subst}
+use Rattle.std.proofs.Common.{◌≡◌, ℕ, Bool, true, false, not, ◌||◌, ◌==◌, cond, List, [], ◌∷◌, map, reverse, length, Option, Some, None, unwrap_or, is_some, refl, sym, ap, ◌∙◌, subst}
 use Rattle.std.specs.FinMap as finite
 use Rattle.std.specs.List.{All}
 use Rattle.std.specs.Ordering.{eq_by_cmp}
@@ -7,10 +7,6 @@ use Rattle.std.proofs.lemmas.Bool.{eqb-true}
 use Rattle.std.proofs.lemmas.List.Elements.{All-nil, All-cons, All-head, All-tail}
 use Rattle.std.proofs.lemmas.List.Sorted.{IsPermutation-reverse}
 use Rattle.std.proofs.lemmas.Map.Views.{All-map-IsPermutation}
-use Rattle.std.proofs.lemmas.Cmp.{tied_itself}
-use Rattle.gq_number.specs.Number.{whole}
-use Rattle.gq_number.proofs.Compares.{number_cmp_total}
-use Rattle.std.specs.Ordering.{is_eq}
 use Rattle.gq_extended.specs.Extended.{Extended}
 use Rattle.gms_ast.specs.declared.expression.Suffix.{Suffix}
 use Rattle.gms_ast.specs.declared.expression.Suffix.TheVariants as suffix

@@ -25,14 +25,15 @@ declares state name = not (is_undeclared (symbol_at state name).content)
 abbrev pub IsClosed : State → Type 0
 IsClosed state = (n : ℕ) → declares state n ≡ true → declares state (base_of state n) ≡ true
 
--- The state has at least as many names as the other one, each name that the other declares has the
--- same symbol in both, and the settings are the same.
+-- The state has at least as many names as `other`, and is unchanged if `other` is laid over it:
+-- each name that `other` declares has the same symbol in both, and the settings are the same.
 pub record HasAll (state other : State) : Type 0 where
   pub many : length other.symbols ≤ length state.symbols
   pub same : overlaid state other ≡ state
 
--- Each name on which the statements depend in a world is declared in the state, also those in the
--- definitions of the models that they solve.
+-- Each name on which the statements depend is declared in the state, also those in the definitions
+-- of the models that they solve, as the program of the world has them. A world is a program and the
+-- names of the solvers.
 abbrev pub NameDeclared : {F : Type 0} → World F → State → List (Stmt F) → Type 0
 NameDeclared world state statements = Each (declares state) (flat_map (statement_names world) statements)
 
@@ -49,9 +50,9 @@ pub record SolveAlike {F : Type 0} (world other : World F) (statements : List (S
   pub models : DefineAlike world.program.statements.items other.program.statements.items (flat_map models_solved statements)
 
 -- A run `other`, which began in `state`, ends like the run `course`. Its last state is `state`
--- overlaid with that of `course`; it has used as many answers; and its remaining answers are those
--- of `course`, followed by `following`. The used and remaining answers of `course` are `count` in
--- all.
+-- overlaid with that of `course`; its solves have used as many answers; and the answers that remain
+-- for further solves are those of `course`, followed by `following`. The used and remaining answers
+-- of `course` are `count` in all.
 pub record EndsAlike (state : State) (following : List (Answer Number)) (count : ℕ) (course other : Course) : Type 0 where
   pub ends : other.state ≡ overlaid state course.state
   pub left : other.left ≡ course.left ++ following

@@ -1,6 +1,6 @@
 -- A program that consists of the statements of a saved one and further statements (GAMS User's
 -- Guide, "Save and Restart").
-use Rattle.std.specs.Prelude.{◌≡◌, ◌≤◌, ℕ, nat_lt, Bool, not, List, [], ◌++◌, length, map, flat_map, if◌then◌else◌}
+use Rattle.std.specs.Prelude.{◌≡◌, ◌≤◌, ℕ, nat_lt, not, List, [], ◌++◌, length, map, flat_map, if◌then◌else◌}
 use Rattle.gq_number.specs.Number.{Number}
 use Rattle.gms_ast.specs.declared.declaration.Decl.{Decl}
 use Rattle.gms_ast.specs.declared.program.Act.{Act}
@@ -21,7 +21,7 @@ module _ {F : Type 0} where
   typed_by (Declare kind items) = if is_variable (content_of kind) then map (λ (item : Decl F). item.named.name) items else []
   typed_by act = []
 
-  -- each name that the statements of a program declare is in the program's table
+  -- each name that the statements of a program declare is in the program's table of names
   abbrev pub DeclaresItsOwn : Program F → Type 0
   DeclaresItsOwn program = Each (λ n. nat_lt n (length program.names)) (flat_map (λ (s : Stmt F). names_declared s.act) program.statements.items)
 
@@ -32,7 +32,7 @@ module _ {F : Type 0} where
 module _ {F : Type 0} (value : F → Number) where
   -- The program of the world `joint` extends that of `saved`. Its table of names is no shorter. Its
   -- statements are those of `saved`, which declare names of the saved table, followed by `others`,
-  -- which declare no variable of `saved` again. The solvers are the same.
+  -- which declare no variable of `saved` as a variable again. The solvers are the same.
   pub record ExtendsProgram (saved joint : World F) (others : List (Stmt F)) : Type 0 where
     pub names : length saved.program.names ≤ length joint.program.names
     pub own : DeclaresItsOwn saved.program

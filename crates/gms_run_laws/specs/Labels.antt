@@ -23,8 +23,8 @@ AreMembers state (set ∷ sets) (label ∷ element) = (has (members_of state set
 AreMembers state sets element = ⊥
 
 module _ {F : Type 0} (number_of : F → Number) (limit : ℕ) (state : State) (binding : Pairs) where
-  -- A lag with this amount goes beyond the end of its set, from the label that the set has in the
-  -- binding, or begins at a label that is none of its members.
+  -- A lead or a lag `op` of this amount reaches no label: it goes beyond an end of its set, from
+  -- the label that the set has in the binding, or this label is none of the set's members.
   pub record GoesPast (set : ℕ) (op : LagOp) (amount : tree.Tree F) : Type 0 where
     pub label : ℕ
     pub occurs : label_of binding set ≡ Some label
@@ -34,8 +34,7 @@ module _ {F : Type 0} (number_of : F → Number) (limit : ℕ) (state : State) (
     pub whole : whole_number given ≡ Some places
     pub past : lagged_label (members_of state set) op places label ≡ None
 
-  -- some lag among the indices goes beyond the end of its set, or begins at a label that is none of
-  -- its members
+  -- some lead or lag among the indices reaches no label, as `GoesPast` states
   abbrev pub SomeGoesPast : tree.Indices F → Type 0
   SomeGoesPast tree.no_index = ⊥
   SomeGoesPast (tree.label label rest) = SomeGoesPast rest

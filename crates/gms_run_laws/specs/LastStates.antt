@@ -29,13 +29,14 @@ FitPositions state [] tuple = Unit {0}
 FitPositions state (set ∷ domain) [] = Unit {0}
 FitPositions state (set ∷ domain) (label ∷ tuple) = (fits_position state set label ≡ true) × FitPositions state domain tuple
 
--- A set is declared, and no statement of the program assigns it.
+-- The set is declared, and `assigned`, a test of the names that are assigned, is false for it or,
+-- if it is an alias, for its set.
 pub record IsFixedSet (assigned : ℕ → Bool) (state : State) (set : ℕ) : Type 0 where
   pub declared : is_undeclared (symbol_at state set).content ≡ false
   pub static : assigned (base_of state set) ≡ false
 
--- the set of each of these positions, if it has one, is declared and never assigned, so that no run
--- changes its members
+-- the set of each of these positions, if it has one, is declared and not assigned: the test
+-- `assigned` is false for it or, if it is an alias, for its set
 abbrev pub AreFixed : (ℕ → Bool) → State → List (Option ℕ) → Type 0
 AreFixed assigned state [] = Unit {0}
 AreFixed assigned state (None ∷ domain) = AreFixed assigned state domain
@@ -46,15 +47,17 @@ abbrev pub names_assigned : {F : Type 0} → State → Program F → List ℕ
 names_assigned state program = map (base_of state) (flat_map assigned_names program.statements.items)
 
 -- `state` may follow `first` in a run that assigns only names for which `is_assigned` is true: it
--- declares the same symbols, each of its symbols satisfies `IsTidy`, the members of a set that is
--- not assigned are the same, and the settings are in the ranges of their options.
+-- declares the same symbols, data aside; each of its symbols satisfies `IsTidy`, an invariant of
+-- the data; the members of a set that is not assigned are the same; and the settings are in the
+-- ranges of their options.
 pub record IsLater (first : State) (is_assigned : ℕ → Bool) (state : State) : Type 0 where
   pub declares : declared_symbols state ≡ declared_symbols first
   pub given : (name : ℕ) → IsTidy (symbol_at state name)
   pub static : (name : ℕ) → is_assigned name ≡ false → members_in (symbol_at state name).content ≡ members_in (symbol_at first name).content
   pub ranges : are_in_range state.settings ≡ true
 
--- A run of a program's statements may begin in this state: it may follow the state in which the
--- program's own run begins. That state itself does, and so does one that is resumed from a save.
+-- A run of the program's statements may begin in the state `first`: it may follow (`IsLater`) the
+-- state in which the program's own run begins, in a run that assigns only names that the program
+-- assigns.
 abbrev pub MayBegin : {F : Type 0} → (F → Number) → Program F → State → Type 0
 MayBegin value program first = IsLater (loaded value program) (is_among (names_assigned (loaded value program) program)) first

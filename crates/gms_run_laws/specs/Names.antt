@@ -86,7 +86,7 @@ module _ {F : Type 0} (world : World F) where
 
 module _ {F : Type 0} where
   -- the models that an act solves, where each statement of a loop's body is replaced by the models
-  -- that it solves
+  -- that it solves; none for an act that is neither a solve nor a loop
   abbrev pub solved_step : Act-F F (List ℕ) (List ℕ) → List ℕ
   solved_step (Act-F.Solve model method objective maximize) = model.name ∷ []
   solved_step (Act-F.Loop control body) = flat_map (λ models. models) body.items

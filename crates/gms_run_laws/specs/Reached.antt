@@ -10,7 +10,9 @@ use Rattle.gms_check.specs.LeftSides.{IsNestedIn}
 use Rattle.gms_eval.specs.Bindings.{Pairs}
 use Rattle.gms_exec.specs.Run.{Course, World, of_statement}
 
--- A statement is one of the program, or is in the body of a loop of it.
+-- `outer` is the statement of the program after its statements `before`. The statement is `outer`
+-- itself if `depth` is 0; otherwise it is in the body of the innermost of `depth` nested loops, of
+-- which `outer` is the outermost.
 pub record IsStatementOf {F : Type 0} (program : Program F) (statement : Stmt F) : Type 0 where
   pub before : List (Stmt F)
   pub outer : Stmt F
@@ -18,8 +20,9 @@ pub record IsStatementOf {F : Type 0} (program : Program F) (statement : Stmt F)
   pub depth : ℕ
   pub inside : IsNestedIn depth statement outer
 
--- A state results from the state `first` if statements of the program are executed, in any sequence
--- and under any labels of controlled sets.
+-- A state results from the state `first` if statements of the program are executed, in any
+-- sequence, under any labels of controlled sets, and with any answers for solves. A course is how
+-- far a run has come, with its state and the answers that remain.
 pub data IsReached {F : Type 0} (number_of : F → Number) (limit : ℕ) (world : World F) (first : State) : State → Type 0 where
   -- the state `first` itself
   at_first : IsReached number_of limit world first first

@@ -50,11 +50,11 @@ use gq_field::ExactField;
 ///
 /// Each set among the indices of the reference has a label (`occur`), and there are at most 10
 /// indices (`few`). Take a state in which no amount of a lag has a fault: there the indices have a
-/// tuple, unless a lag goes beyond the end of its set or begins at a label that is no member of
-/// that set (`tuple`). In no other case does a reference read 0 because a label is missing. A fold,
-/// a loop or a left side gives each of its sets a label, that of the element, in addition to the
-/// sets that have one (`element`); if the sets have one dimension, each label is a member of its
-/// set (`members`).
+/// tuple, unless a lag goes beyond an end of its set or begins at a label that is no member of that
+/// set (`tuple`). In no other case does a reference read 0 because a label is missing. A fold, a
+/// loop or a left side gives each of its sets a label, that of the element, in addition to the sets
+/// that have one (`element`); if the stored members of these sets have one label each and are
+/// strictly sorted by its number, each label of the element is a member of its set (`members`).
 ///
 /// GAMS User's Guide, "Data Manipulations with Parameters", controlled indices; "Sets as Sequences:
 /// Ordered Sets".
@@ -80,9 +80,10 @@ pub fn label_laws<F: ExactField>()
 
 /// The last state of a program's run is one that its statements reach (`last`). Take any state that
 /// the statements reach, also inside a loop, from one in which a run may begin: from the start or
-/// from a save. Each set that is an index set before some statement of the program has in that
-/// state members of one label each, in order (`simple`). If the program is accepted, no assignment
-/// of it, executed in that state, assigns to an element twice (`once`; GAMS User's Guide, "Data
+/// from a save. Take a name that the declarations before some statement of the program make a
+/// one-dimensional set or an alias of one: in that state its stored members have one label each and
+/// are strictly sorted by its number (`simple`). If the program is accepted, no assignment of it,
+/// executed in that state, assigns to an element twice (`once`; GAMS User's Guide, "Data
 /// Manipulations with Parameters", indexed assignments).
 pub fn run_laws<F: ExactField>()
     ensures last { (world : World F) (state : State) (answers : List (Answer Number)) →
@@ -101,13 +102,13 @@ pub fn run_laws<F: ExactField>()
 
 /// What each state of a program's run, also inside a loop, has in common with the state in which
 /// the program's own run begins. Each such state declares the same names in the same way. The
-/// tuples with data of each name are in order, have as many labels as the name has positions, and
-/// are those whose entry differs from that of an element without data. A model has the statuses of
-/// before a solve or of after one. The members of a set that the program does not assign are
-/// unchanged. The settings are in the ranges of their options. A run may begin in any state with
-/// all these properties; then each of its states has them (`kept`). The first state of the
-/// program's own run has them (`own`), and so has one that is resumed from a save. So the last
-/// state, which is saved, has them.
+/// stored tuples with data of each name are strictly sorted by the numbers of their labels, have as
+/// many labels as the name has positions, and are those whose entry differs from that of an element
+/// without data. A model has the statuses of before a solve or of after one. The members of a set
+/// that the program does not assign are unchanged. The settings are in the ranges of their options.
+/// A run may begin in any state with all these properties; then each of its states has them
+/// (`kept`). The first state of the program's own run has them (`own`), and so has one that is
+/// resumed from a save. So the last state, which is saved, has them.
 ///
 /// In an accepted program each tuple has at most 10 labels (`few`). In the state in which its own
 /// run begins each label is a member of the set of its position (`begins`), which is declared and

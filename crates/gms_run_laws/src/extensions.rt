@@ -12,8 +12,9 @@ use gq_field::ExactField;
 /// The statements of an accepted program depend only on names that the first state of its run
 /// declares, also in the definitions of the models that they solve (`names`), and the set of an
 /// alias of that state is declared (`closed`). If an accepted program begins with the statements of
-/// another, its first state has all that the other's first state declares (`begins`), and the
-/// models that the other solves have the same definitions in both programs (`solves`).
+/// another, its first state has each name that the other's first state declares, with the same
+/// declaration and data, and the same settings (`begins`), and the models that the other solves
+/// have the same definitions in both programs (`solves`).
 ///
 /// A restarted run rests on these laws (GAMS User's Guide, "Save and Restart").
 pub fn extension_laws<F: ExactField>()

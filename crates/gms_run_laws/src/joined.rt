@@ -11,10 +11,10 @@ use gq_field::ExactField;
 
 /// A run of the statements `first` followed by `others`, where the run of `first` alone does not
 /// halt. The whole run consists of the run of `first` and of a run of `others` that begins in the
-/// last state of the former with its remaining answers. The events of `others` follow those of
-/// `first`, and the indices of their answers are greater by the number of answers that `first`
-/// used. So a run that resumes from a saved state shows what it would have shown after the
-/// statements that made that state (GAMS User's Guide, "Save and Restart").
+/// last state of the former with the answers that remain for further solves. The events of `others`
+/// follow those of `first`, and the indices of their answers are greater by the number of answers
+/// that `first` used. So a run that resumes from a saved state shows what it would have shown after
+/// the statements that made that state (GAMS User's Guide, "Save and Restart").
 pub fn joint_laws<F: ExactField>()
     ensures joined { (world : World F) (state : State) (answers : List (Answer Number)) (first others : List (Stmt F)) →
         (run_from F.value F.limit world state answers first).halted ≡ None →

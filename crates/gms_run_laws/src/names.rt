@@ -16,8 +16,9 @@ ghost use Rattle.lp_core.specs.declared.answer.Answer.{Answer};
 use gq_field::ExactField;
 
 /// The meaning of an expression depends only on the names in it. In two states in which each of
-/// these names has the same symbol, the expression has the same value under every binding, or the
-/// same fault (`value`); and the same linear form in the variables, if it has one (`form`).
+/// these names has the same symbol, and each alias among them also the same symbol of its set, the
+/// expression has the same value under every binding, or the same fault (`value`); and the same
+/// linear form in the variables, if it has one (`form`).
 ///
 /// GAMS User's Guide, "Data Manipulations with Parameters", "Equations".
 pub fn value_laws<F: ExactField>()
@@ -28,13 +29,15 @@ pub fn value_laws<F: ExactField>()
 {}
 
 /// Two runs of the same statements, one from the state `first` and one from `state`. The statements
-/// depend only on names that `first` declares, `state` has all that `first` has, and the set of
-/// each alias of `first` is declared; the solvers, and the definitions of the models that are
-/// solved, are the same in both worlds. Then the statements do the same in both runs, and change no
-/// name of `state` that `first` does not declare. If neither run halts, the run that began in
-/// `state` ends in `state` overlaid with the last state of the run that began in `first`. It used
-/// as many answers as that run, and its remaining answers are those of that run, followed by
-/// `following`, which only it had.
+/// depend only on names that `first` declares, `state` has the settings of `first` and each name
+/// that `first` declares, with the same declaration and data, and the set of each alias of `first`
+/// is declared; the solvers, and the definitions of the models that are solved, are the same in
+/// both worlds. If neither run halts, the run that began in `state` ends in `state` overlaid with
+/// the last state of the run that began in `first`: names that this last state declares are as in
+/// it, other names as in `state`, and the settings are those of this last state. The solves of both
+/// runs used as many answers. The run that began in `state` was given `following` after the answers
+/// of the other run, and what remains of its answers is what remains in the other run, followed by
+/// `following`.
 ///
 /// GAMS User's Guide, "Save and Restart", "GAMS Programs".
 pub fn frame_laws<F: ExactField>()

@@ -33,8 +33,8 @@ abbrev pub restarts_at : (ℕ → Bool) → List (Place × ℕ) → List Compile
 restarts_at test names =
     map (λ (named : Place × ℕ). restart_at named.0) (filter (λ (named : Place × ℕ). test named.1) names)
 
--- `errors`, which has an error or None for each item of a list, with the error that `other` gives
--- for an item in place of its error if that comes first: by place, then by number
+-- `errors` has an error or None for each item of a list; the result has for each item the first, by
+-- place and then by number, of that error and the one that `other` gives; None if there is neither
 abbrev pub each_sooner : {X : Type 0} → (X → Option CompileError) → List (Option CompileError) → List X → List (Option CompileError)
 each_sooner other (error ∷ errors) (x ∷ xs) = sooner error (other x) ∷ each_sooner other errors xs
 each_sooner other errors xs = errors
@@ -45,28 +45,32 @@ module _ {F : Type 0} where
   abbrev pub is_saved : ℕ → Stmt F → Bool
   is_saved from statement = nat_lt statement.at.line from
 
-  -- the statements of a joint program that are those of the saved source
+  -- the statements of the saved source, which is the part of `joint` before the line `from`
   abbrev pub saved_statements : ℕ → Program F → List (Stmt F)
   saved_statements from joint = filter (is_saved from) joint.statements.items
 
-  -- the state after the declarations of the saved source
+  -- the state after the declarations of the saved source, which is the part of `joint` before the
+  -- line `from`
   abbrev pub saved_names : ℕ → Program F → State
   saved_names from joint = declared_by_all (blank_state (length joint.names)) (saved_statements from joint)
 
-  -- the names that the saved source assigns, an alias replaced by its set
+  -- the names that the saved source, which is the part of `joint` before the line `from`, assigns,
+  -- an alias replaced by its set
   abbrev pub saved_assigned : ℕ → Program F → List ℕ
   saved_assigned from joint = map (base_of (declared_state joint)) (flat_map assigned_names (saved_statements from joint))
 
-  -- whether the saved source declares the name as a variable
+  -- whether the saved source, which is the part of `joint` before the line `from`, declares the
+  -- name as a variable
   abbrev pub is_saved_variable : ℕ → Program F → ℕ → Bool
   is_saved_variable from joint name = is_variable (symbol_at (saved_names from joint) name).content
 
-  -- whether the saved source declares the name as a set and does not assign it
+  -- whether the saved source, which is the part of `joint` before the line `from`, declares the
+  -- name as a set and does not assign it
   abbrev pub is_fixed_set : ℕ → Program F → ℕ → Bool
   is_fixed_set from joint set = is_set (symbol_at (saved_names from joint) set).content && not (is_among (saved_assigned from joint) set)
 
-  -- whether a name, or the set of an alias, is a set that the saved source declares and does not
-  -- assign
+  -- whether the name, or its set if it is an alias, is a set that the saved source, which is the
+  -- part of `joint` before the line `from`, declares and does not assign
   abbrev pub names_fixed_set : ℕ → Program F → ℕ → Bool
   names_fixed_set from joint name = is_fixed_set from joint (base_of (declared_state joint) name)
 
@@ -94,14 +98,15 @@ module _ {F : Type 0} where
   abbrev pub targets : Stmt F → List (Place × ℕ)
   targets = fold-Stmt F (List (Place × ℕ)) (List (Place × ℕ)) targets_step (λ statement. statement.act)
 
-  -- the errors Restart of a statement: it declares a saved variable as a variable again, or assigns
-  -- a set that the saved source declares and does not assign
+  -- the errors Restart of a statement, where the saved source is the part of `joint` before the
+  -- line `from`: the statement declares a saved variable as a variable again, or assigns a set that
+  -- the saved source declares and does not assign
   abbrev pub restart_errors : ℕ → Program F → Stmt F → List CompileError
   restart_errors from joint statement =
       restarts_at (is_saved_variable from joint) (typed_names statement.act) ++ restarts_at (names_fixed_set from joint) (targets statement)
 
-  -- the first error Restart of a statement of the new file; None if it has none or is one of the
-  -- saved source
+  -- the first error Restart of a statement of the new file, which begins at the line `from` of
+  -- `joint`; None if the statement has none or is one of the saved source before that line
   abbrev pub restart_error : ℕ → Program F → Stmt F → Option CompileError
   restart_error from joint statement = if is_saved from statement then None else first_error (restart_errors from joint statement)
 
@@ -111,11 +116,13 @@ module _ {F : Type 0} where
   joint_errors value joint from solvers =
       flat_map option_to_list (each_sooner (restart_error from joint) (statement_errors value joint solvers) joint.statements.items)
 
-  -- for some list of solvers' names, the joint program has no error with solvers of these names
+  -- for some list of solvers' names, the joint program, whose new file begins at the line `from`,
+  -- has no error with solvers of these names
   abbrev pub HasNoErrors : (F → Number) → Program F → ℕ → Type 0
   HasNoErrors value joint from = (solvers : List (List ℕ)) × (joint_errors value joint from solvers ≡ [])
 
   -- the state from which a restarted run resumes: the names of the saved state as they are in it,
-  -- and the names that only the joint program declares with the data that it declares
+  -- and the names that only the joint program declares with the data that it declares; the settings
+  -- are the saved ones
   abbrev pub resumed : (F → Number) → State → Program F → State
   resumed value saved joint = overlaid (loaded value joint) saved

@@ -1,6 +1,6 @@
 -- Saves: which bytes are one, and what is restored from them (GAMS User's Guide, "Save and
 -- Restart"). Which texts are saves, and how many bytes one may have, is this project's own choice.
-use Rattle.std.specs.Prelude.{◌≡◌, ℕ, ◌-◌, ◌^◌, ◌<◌, ◌≤◌, ◌==◌, List, [], ◌∷◌, length, flat_map, Option, Some, None, position, codes, Result, Ok, Err, if◌then◌else◌}
+use Rattle.std.specs.Prelude.{◌≡◌, ℕ, ◌<◌, ◌≤◌, ◌==◌, List, [], ◌∷◌, length, flat_map, Option, Some, None, position, codes, Result, Ok, Err, if◌then◌else◌}
 use Rattle.std.specs.Str.{bytes_eq, str_eq_ignore_ascii_case}
 use Rattle.gq_frac.specs.declared.frac.Frac.{Frac}
 use Rattle.gq_frac.specs.Frac.{frac_value, frac_limit}
@@ -31,7 +31,8 @@ most_save_bytes = 67108864
 
 -- ---- the names of solvers
 
--- the solver's name in a setting of the option `lp`; none in a setting of another option
+-- the name to which a setting sets the option `lp`, as a list; none if it sets another option, or
+-- sets `lp` to a number
 abbrev pub option_solvers : Word × Setting Frac → List (List ℕ)
 option_solvers (word, setting.Number at value) = []
 option_solvers (word, setting.Name name) = if str_eq_ignore_ascii_case word.text (codes "lp") then name.text ∷ [] else []
@@ -60,8 +61,10 @@ place_of_solver solvers solver =
 
 -- ---- saves
 
--- The program has no error with solvers of the names that it chooses, and `state` is a state of it
--- that can be saved, with a solver of this name.
+-- The program has no error with solvers of the names that it chooses. `state` is a saved state of
+-- the program, with a solver of this name (`IsSavedOf`): it declares the same names in the same
+-- way, its data and settings are valid, and a set that the program does not assign has the members
+-- of its declaration.
 pub record IsSavedBy (program : Program Frac) (state : State) (solver : List ℕ) : Type 0 where
   pub no_error : compile_errors frac_value program (solvers_chosen program) ≡ []
   pub is_saved : IsSavedOf frac_limit (length program.labels) (declared_state program) (loaded frac_value program) (is_among (dynamic_sets program)) state solver
@@ -94,7 +97,9 @@ pub record IsRestored (solvers : List (List ℕ)) (bytes : List ℕ) (saved : Sa
   pub placed : place_of_solver solvers solver ≡ Some saved.store.settings.solver
 
 -- The result of restoring these bytes, with solvers of these names, is right: what was saved, or a
--- fault whose cause holds. Out of memory makes no claim.
+-- fault whose cause holds. SaveTooLong: there are more than `most_save_bytes` bytes. SaveShape: the
+-- bytes are no save. SaveSolver: none of the solvers is that of the save. Out of memory makes no
+-- claim.
 abbrev pub Restores : List (List ℕ) → List ℕ → Result Saved SaveFaultOrMemory → Type 0
 Restores solvers bytes (Ok saved) = (length bytes ≤ most_save_bytes) × IsRestored solvers bytes saved
 Restores solvers bytes (Err Memory) = Unit {0}
@@ -102,20 +107,20 @@ Restores solvers bytes (Err (Fault SaveTooLong)) = most_save_bytes < length byte
 Restores solvers bytes (Err (Fault SaveShape)) = (length bytes ≤ most_save_bytes) × IsNoSave bytes
 Restores solvers bytes (Err (Fault SaveSolver)) = (length bytes ≤ most_save_bytes) × LacksSolver solvers bytes
 
--- the state whose settings have this index of the solver
+-- the state with this index of the solver in its settings, and otherwise unchanged
 abbrev pub with_solver : State → ℕ → State
 with_solver state place = record { symbols = state.symbols; settings = record state.settings { solver = place } }
 
--- What was restored has this source, a program with the same view as this one, and this state,
--- except that the settings have the index of this solver.
+-- What was restored has this source, a program with the same names, labels and statements as this
+-- one, and this state, except that the settings have the index of this solver.
 pub record IsBack (solvers : List (List ℕ)) (saved : Saved) (source : List ℕ) (program : Program Frac) (state : State) (solver : List ℕ) : Type 0 where
   pub source_is : saved.source.items ≡ source
   pub program_is : program_view frac_value saved.program ≡ program_view frac_value program
   pub state_is : saved.store ≡ with_solver state saved.store.settings.solver
   pub placed : place_of_solver solvers solver ≡ Some saved.store.settings.solver
 
--- the result of restoring the save of this state is right: the state, unless the save is too long
--- or none of the solvers has the name; out of memory makes no claim
+-- the result of restoring `bytes`, the save of this state, is right: the state, unless the save is
+-- too long or none of the solvers has the name; never SaveShape; out of memory makes no claim
 abbrev pub AnswersSave : List (List ℕ) → List ℕ → List ℕ → Program Frac → State → List ℕ → Result Saved SaveFaultOrMemory → Type 0
 AnswersSave solvers bytes source program state solver (Ok saved) = IsBack solvers saved source program state solver
 AnswersSave solvers bytes source program state solver (Err Memory) = Unit {0}
@@ -124,7 +129,7 @@ AnswersSave solvers bytes source program state solver (Err (Fault SaveShape)) = 
 AnswersSave solvers bytes source program state solver (Err (Fault SaveSolver)) = place_of_solver solvers solver ≡ None
 
 -- whichever state of whichever program these bytes are the save of, the result of restoring them is
--- right for it
+-- right for it (`AnswersSave`): this state, a fault whose cause holds, or out of memory
 abbrev pub GivesBack : List (List ℕ) → List ℕ → Result Saved SaveFaultOrMemory → Type 0
 GivesBack solvers bytes result =
     (source : List ℕ) (program : Program Frac) (state : State) (solver : List ℕ) → IsSaveOf bytes source program state solver → AnswersSave solvers bytes source program state solver result

@@ -12,9 +12,10 @@ use gq_frac::Frac;
 use std::alloc::{AllocError, Global};
 use std::mem;
 
-/// The errors of a joint program, with solvers of these names, in the order of its statements.
-/// `from` is the line at which the new file begins. Each statement has at most one error: of those
-/// that a check finds and of the errors `Restart` the first, by place and then by number.
+/// The errors of `joint`, the program of a saved source followed by a new file, which begins at the
+/// line `from`. The errors are in the order of the statements; `solvers` has the names of the
+/// solvers. Each statement has at most one error: of those that a check finds and of the errors
+/// `Restart` the first, by place and then by number.
 ///
 /// `Restart` is at a saved variable that the new file declares as a variable again, or at a saved
 /// set that the new file assigns and the saved source does not; an alias counts as its set (GAMS
@@ -34,10 +35,12 @@ pub fn joint_errors(
     found_errors(alloc, &each)
 }
 
-/// Makes the saved state in `store` the one from which a restarted run resumes: the state gets the
-/// names that only the joint program declares, with their data (GAMS User's Guide, "Save and
-/// Restart"). `from` is the line at which the new file begins. The saved state is moved, and not
-/// copied. If memory runs out, the state is unchanged.
+/// Makes the saved state in `store` the one from which a restarted run resumes. `joint` is the
+/// program of the saved source followed by the new file, which begins at the line `from`. The state
+/// gets the names that only this joint program declares, with their data (GAMS User's Guide, "Save
+/// and Restart"). Names that the saved state declares, and its settings, stay. With some list of
+/// solvers the joint program must have no error of `joint_errors`. The saved state is moved, and
+/// not copied. If memory runs out, the state is unchanged.
 pub fn resume(
     alloc: Global,
     store: &mut Store<Frac>,

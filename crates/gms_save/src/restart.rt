@@ -80,8 +80,8 @@ fn assigned_before(
 }
 
 impl RestartCheck {
-    /// The check of the statements of the new file of a joint program; the new file begins at the
-    /// line `from`.
+    /// The check of the statements of the new file. `joint` is the program of the saved source
+    /// followed by the new file, which begins at the line `from`.
     pub fn new(alloc: Global, joint: &Program<Frac>, from: u32) -> Result<RestartCheck, AllocError>
         ensures { IfOk result (IsCheckOf from joint.now) }
     {
@@ -97,10 +97,11 @@ impl RestartCheck {
     }
 
     /// Puts the errors `Restart` of statements into `each`, which has for each statement its error
-    /// so far, or `None` if it has none. Such an error is at a saved variable that the statement
-    /// declares again, or at a saved set that it assigns and the saved source does not. The first
-    /// `Restart` of a statement replaces the error if it comes first, by place and then by number,
-    /// or if there is no error so far. Other errors stay.
+    /// so far, or `None` if it has none. Such an error is at a saved variable that a statement of
+    /// the new file declares as a variable again, or at a saved set that it assigns and the saved
+    /// source does not; statements of the saved source have none. The first `Restart` of a
+    /// statement replaces the error if it comes first, by place and then by number, or if there is
+    /// no error so far. Other errors stay.
     pub fn add_errors(&self, statements: &[Stmt<Frac>], each: &mut [Option<CompileError>])
         requires { length each.old ≡ length statements.now }
         ensures { each.new ≡ each_sooner (error_by self.now) each.old statements.now }

@@ -54,9 +54,10 @@ pub fn save(
 /// its place. The other faults come only up to that length. `SaveShape` comes only if the bytes are
 /// no save: a save has the one text of a state that the program of its source can have, and that
 /// program has no error, except perhaps in its choice of a solver. `SaveSolver` comes only if the
-/// save has no solver and the list is not empty, or if the list lacks the solver of the save.
-/// `Memory` means that memory ran out. If no fault comes, the bytes are the save of what is
-/// restored (`answer`).
+/// save has no solver and the list is not empty, or if the list lacks the solver of the save;
+/// letter case is ignored in names. The index is that of the first solver with the name; 0 if the
+/// save has no solver and the list is empty. `Memory` means that memory ran out. If no fault comes,
+/// the bytes are the save of what is restored (`answer`).
 ///
 /// Take any state of any program of any source whose save the bytes are. It is restored, with that
 /// source and with the view of that program, unless memory runs out, the bytes are too long or no

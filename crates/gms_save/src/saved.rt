@@ -5,15 +5,15 @@ use gq_frac::Frac;
 
 /// What is restored from a save: the source that was run, its program, and the state after it.
 ///
-/// The settings of the state have the index of the save's solver among the solvers of the resumed
-/// run.
+/// The settings of the state have the index of the save's solver in the list of solvers of the run
+/// that resumes from the save.
 pub struct Saved {
     /// The source that was run before the save, byte for byte.
     pub source: Vec<u8>,
     /// The program of the saved source.
     pub program: Program<Frac>,
-    /// The state after the run of the saved source. Its settings have the index of the solver among
-    /// the solvers of the resumed run.
+    /// The state after the run of the saved source. Its settings have the index of the solver in
+    /// the list of solvers of the run that resumes from the save.
     pub store: Store<Frac>,
 }
 

@@ -17,12 +17,12 @@ abbrev pub HasNone : ℕ → List ℕ → Type 0
 HasNone byte [] = Unit {0}
 HasNone byte (b ∷ bs) = (b ≢ byte) × HasNone byte bs
 
--- how many bytes a text has before the first occurrence of `byte`
+-- how many bytes a text has before the first occurrence of `byte`; all if it does not occur
 abbrev pub bytes_before : ℕ → List ℕ → ℕ
 bytes_before byte text = prefix_len (λ other. not (other == byte)) text
 
--- the result of a reader is not `Shape`, and if it is Ok, what was found has the property `Is`; out
--- of memory makes no claim
+-- the result of a reader is not `Shape`, the fault of a text that is no save's, and if it is Ok,
+-- what was found has the property `Is`; out of memory makes no claim
 abbrev pub Finds : {A : Type 0} → Result A ReadFault → (A → Type 0) → Type 0
 Finds (Ok x) Is = Is x
 Finds (Err Memory) Is = Unit {0}
@@ -46,8 +46,9 @@ pub record IsReadableTuple (arity : ℕ) (t : List ℕ) : Type 0 where
   pub few : arity ≤ 10
   pub small : AllByRecursion (λ label. label < 2 ^ 32) t
 
--- the entry of a content at a tuple can be read: the tuple can, the entry's numbers fit under the
--- limit, and the entry differs from that of an element without data
+-- the entry of a content at a tuple can be read: the tuple can, the numerators and denominators of
+-- the entry's numbers are at most `limit`, and the entry differs from that of an element without
+-- data
 pub record IsReadable (limit arity : ℕ) (content : Content) (t : List ℕ) : Type 0 where
   pub tuple : IsReadableTuple arity t
   pub fit : fits_at limit content t ≡ true
@@ -62,7 +63,8 @@ HasEntriesOfKind kind.Variable (variable_of type entries) = Unit {0}
 HasEntriesOfKind kind.Equation (equation_of entries) = Unit {0}
 HasEntriesOfKind kind content = ⊥
 
--- the word before a name of this kind in a save, with a blank after it
+-- the word before a name of this kind in a save, with a blank after it; empty for an undeclared
+-- name
 abbrev pub kind_word : SymbolKind → List ℕ
 kind_word kind.Set = codes "set "
 kind_word kind.Parameter = codes "parameter "
@@ -71,21 +73,22 @@ kind_word kind.Equation = codes "equation "
 kind_word kind.Model = codes "model "
 kind_word kind.Undeclared = []
 
--- the state after the entry that a content has at a tuple was written to a name
+-- the state after the entry that a content has at the tuple t was written to the name `name`
 abbrev pub after_entry : State → ℕ → Content → List ℕ → State
 after_entry state name (set_of members) t = after_membership state name t true
 after_entry state name (parameter_of entries) t = after_value state name t (value_in (parameter_of entries) t)
 after_entry state name content t = after_attributes state name t (attributes_in content t)
 
--- the state after the entries that a content has at these tuples were written to a name, in order
+-- the state after the entries that a content has at these tuples were written to the name `name`,
+-- in order
 abbrev pub filled : State → ℕ → Content → List (List ℕ) → State
 filled state name content tuples = fold (λ state t. after_entry state name content t) state tuples
 
 -- ---- names
 
 -- The data of a content can be read for a name: the name's symbol has the same content, but without
--- data; the tuples of the entries are in order, and each entry can be read; each of the two
--- statuses fits into a byte.
+-- data; the tuples of the entries are in order, and each entry can be read, with numerators and
+-- denominators of at most `limit`; each of the two statuses fits into a byte.
 pub record IsReadablePart (limit : ℕ) (symbol : Symbol) (content : Content) : Type 0 where
   pub declared : symbol.content ≡ emptied content
   pub ordered : IsOrdered (given_in content)
@@ -94,8 +97,9 @@ pub record IsReadablePart (limit : ℕ) (symbol : Symbol) (content : Content) : 
   pub model : (statuses_in content).0 < 2 ^ 8
   pub solver : (statuses_in content).1 < 2 ^ 8
 
--- the data of each symbol of the second list can be read for the symbol at its index in the first
--- list, which has the same domain; the lists are equally long
+-- the data of each symbol of the second list, with numerators and denominators of at most `limit`,
+-- can be read for the symbol at its index in the first list, which has the same domain; the lists
+-- are equally long
 abbrev pub AreReadable : ℕ → List Symbol → List Symbol → Type 0
 AreReadable limit [] [] = Unit {0}
 AreReadable limit (declared ∷ names) (symbol ∷ symbols) = (declared.domain ≡ symbol.domain) × IsReadablePart limit declared symbol.content × AreReadable limit names symbols

@@ -31,7 +31,7 @@ abbrev pub bound_text : List ℕ → Option Number → List ℕ
 bound_text none None = none
 bound_text none (Some x) = exact_text x
 
--- the text of an element's lower bound, upper bound, level and marginal
+-- the text of an element's lower bound, upper bound, level and marginal, with blanks between them
 abbrev pub attributes_text : Attributes → List ℕ
 attributes_text a =
     bound_text (codes "-INF") a.lower ++ (codes " " ++ (bound_text (codes "+INF") a.upper ++ (codes " " ++ (exact_text a.level ++ (codes " " ++ exact_text a.marginal)))))

@@ -67,9 +67,9 @@ is_solver_name (first ∷ rest) = is_ascii_alphabetic first && (list_all is_solv
 -- ---- names
 
 -- The data of a symbol are valid in a state with `labels` labels: the tuples are in order and in
--- the symbol's domain; the numbers fit under the limit; the tuples are those whose entry differs
--- from that of an element without data; and a model has the two statuses of some end of a solve, or
--- those before its first solve.
+-- the symbol's domain; the numerators and denominators of the numbers are at most `limit`; the
+-- tuples are those whose entry differs from that of an element without data; and a model has the
+-- two statuses of some end of a solve, or those before its first solve.
 pub record IsGivenWell (limit labels : ℕ) (state : State) (symbol : Symbol) : Type 0 where
   pub ordered : IsOrdered (given_in symbol.content)
   -- a tuple has at most 10 labels
@@ -80,10 +80,11 @@ pub record IsGivenWell (limit labels : ℕ) (state : State) (symbol : Symbol) : 
   pub statuses : are_statuses (statuses_in symbol.content).0 (statuses_in symbol.content).1 ≡ true
 
 -- A state is a saved one of a program: `declared` is the state of the program's declarations,
--- `loaded` the state with the data of these, `labels` the number of the program's labels, and
--- `assigned` tells which sets it assigns. The saved state declares what `declared` does, and the
--- data of each name are valid; a set that the program does not assign has the members of `loaded`;
--- the settings are in their ranges; and `solver` has the form of a solver's name.
+-- `loaded` the state with the data of these, `labels` the number of the program's labels, `limit`
+-- the limit of numerators and denominators, and `assigned` tells which sets the program assigns.
+-- The saved state declares what `declared` does, and the data of each name are valid; a set that
+-- the program does not assign has the members of `loaded`; the settings are in their ranges; and
+-- `solver` has the form of a solver's name.
 pub record IsSavedOf (limit labels : ℕ) (declared loaded : State) (assigned : ℕ → Bool) (state : State) (solver : List ℕ) : Type 0 where
   pub declares : declared_symbols state ≡ declared_symbols declared
   pub given : (name : ℕ) → IsGivenWell limit labels state (symbol_at state name)

@@ -21,8 +21,8 @@ fn are_statuses(model: u8, solver: u8) -> bool
     }
 }
 
-/// Whether the settings are in the ranges of their options (GAMS User's Guide, "The Option
-/// Statement").
+/// Whether the settings are in the ranges of their options: `limrow`, `limcol` and `iterlim` at
+/// most 2,147,483,647, and `decimals` at most 8 (GAMS User's Guide, "The Option Statement").
 pub fn are_in_range(settings: Settings) -> bool
     ensures { result ≡ are_in_range settings }
 {
@@ -129,9 +129,11 @@ fn fits_domain<F: ExactField>(
 }
 
 /// Whether the data that a state has for the name with the number `name` are valid in a program
-/// with `labels` labels: the tuples are in the domain of the name, with labels whose numbers are
-/// below `labels`, and a model has the two statuses of some end of a solve, or those before its
-/// first solve.
+/// with `labels` labels: the tuples are strictly sorted by the numbers of their labels, and have at
+/// most 10 labels; they are in the domain of the name, with labels whose numbers are below
+/// `labels`; they are exactly those whose entry differs from that of an element without data; the
+/// numerators and denominators are at most `F.limit` in magnitude; and a model has the two statuses
+/// of some end of a solve, or those before its first solve. The error is out of memory.
 pub fn is_given_well<F: ExactField>(
     alloc: Global,
     store: &Store<F>,

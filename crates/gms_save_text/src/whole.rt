@@ -77,8 +77,8 @@ fn settings_at(text: &[u8]) -> Result<(Settings, &[u8], &[u8]), ReadFault>
 /// the names. The text gives the state and the name of the solver; the index of the solver in the
 /// settings of the state is 0.
 ///
-/// If the text is that of a saved state of the program, with at most 2^32 labels, the result is
-/// that state, except for that index. The result always declares what the program declares. The
+/// If the program has at most 2^32 labels, and the text is that of a saved state of it, the result
+/// is that state, except for that index. The result always declares what the program declares. The
 /// error `Shape` occurs only if the text is that of no such state. Other texts may be accepted too.
 pub fn read_state<'t, F: ExactField>(
     alloc: Global,

@@ -1,4 +1,4 @@
-use Rattle.std.proofs.Common.{◌≡◌, ℕ, ◌+◌, ◌*◌, List, [], ◌∷◌, ◌++◌, refl, sym, ap, ◌∙◌, arith}
+use Rattle.std.proofs.Common.{◌≡◌, [], ◌++◌, ap, ◌∙◌, arith}
 use Rattle.std.specs.Prelude.{codes, string_bytes, decimal}
 use Rattle.gms_gen.specs.Generator.{text_line, set_lines, demand_lines, supply_lines, transport_cost_lines, model_lines}
 use Rattle.gms_gen.proofs.Pieces.{sets-written, following, following-two}

@@ -1,6 +1,6 @@
-use Rattle.std.proofs.Common.{◌≡◌, ℕ, suc, ◌+◌, ◌*◌, ◌++◌, refl, sym, ap, ◌∙◌, arith}
+use Rattle.std.proofs.Common.{◌≡◌, ◌+◌, ◌*◌, ◌++◌, refl, ap, ◌∙◌, arith}
 use Rattle.std.specs.Prelude.{codes, string_bytes}
-use Rattle.gms_gen.specs.Generator.{seed_after, cost, datum, element, texts_below, drawn}
+use Rattle.gms_gen.specs.Generator.{cost, datum, element, drawn}
 use Rattle.gms_gen.proofs.Turns.{state-more, drawn-more, line-more, line-of-two}
 use Rattle.gms_gen.proofs.model.push_costs_from.Goals as goal
 

@@ -1,4 +1,4 @@
-use Rattle.std.proofs.Common.{◌≡◌, ℕ, suc, ◌+◌, ◌*◌, ◌++◌, refl, sym, ap, ◌∙◌, arith}
+use Rattle.std.proofs.Common.{◌≡◌, ◌+◌, ◌++◌, refl, ap, ◌∙◌, arith}
 use Rattle.std.specs.Prelude.{codes, string_bytes}
 use Rattle.gms_gen.specs.Generator.{seed_after, demand, datum, element, texts_below, sum_below, drawn}
 use Rattle.gms_gen.proofs.Turns.{state-more, drawn-more, line-more, sum-more, line-of}

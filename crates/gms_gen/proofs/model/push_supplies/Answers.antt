@@ -1,6 +1,6 @@
-use Rattle.std.proofs.Common.{◌≡◌, ℕ, suc, ◌+◌, ◌*◌, ◌/◌, ◌++◌, refl, sym, ap, ◌∙◌, arith}
+use Rattle.std.proofs.Common.{◌≡◌, ◌+◌, ◌/◌, refl, ap, ◌∙◌, arith}
 use Rattle.std.specs.Prelude.{codes, string_bytes}
-use Rattle.gms_gen.specs.Generator.{seed_after, supply, datum, element, texts_below, drawn, total_demand}
+use Rattle.gms_gen.specs.Generator.{supply, datum, element, drawn, total_demand}
 use Rattle.gms_gen.proofs.Turns.{state-more, drawn-more, line-more, line-of}
 use Rattle.gms_gen.proofs.model.push_supplies.Goals as goal
 

@@ -1,4 +1,4 @@
-use Rattle.std.proofs.Common.{rules, arith, ap, ◌∙◌, subst, sym, ◌<◌, length}
+use Rattle.std.proofs.Common.{rules, arith, subst, sym, ◌<◌, length}
 use Rattle.gms_grammar.specs.Lines.{is_line_end}
 use Rattle.gms_grammar.proofs.LineLemmas.{before-le-length}
 use Rattle.gms_list.proofs.Echoes.{after_shorter, after_lines}

@@ -1,4 +1,4 @@
-use Rattle.std.proofs.Common.{◌∙◌, ap, sym, codes, if◌then◌else◌}
+use Rattle.std.proofs.Common.{◌∙◌, ap, sym, if◌then◌else◌}
 use Rattle.gq_number.specs.Number.{neg_ℚ}
 use Rattle.gms_list.proofs.Signs.{below_tested}
 use Rattle.gms_list.proofs.equations.magnitude.Goals as goal

@@ -1,4 +1,4 @@
-use Rattle.std.proofs.Common.{◌≡◌, map, drop, length}
+use Rattle.std.proofs.Common.{◌≡◌, map, drop}
 use Rattle.gms_list.specs.SolveText.{distinct_names}
 use Rattle.gms_list.proofs.Once.{gathered}
 use Rattle.lp_core.specs.declared.program.Column.{Column}

@@ -1,8 +1,6 @@
-use Rattle.std.proofs.Common.{◌≡◌, ◌∙◌, ap, sym, arith, refl, map, drop, max, length}
-use Rattle.std.proofs.lemmas.List.{drop_all}
+use Rattle.std.proofs.Common.{◌∙◌, ap, arith, max, length}
 use Rattle.gq_extended.specs.Meaning.{extended}
-use Rattle.gms_fmt.specs.ElementTexts.{dotted_text}
-use Rattle.gms_list.proofs.Widths.{width_from, width_step, width_done}
+use Rattle.gms_list.proofs.Widths.{width_step, width_done}
 use Rattle.gms_list.proofs.items.width.Goals as goal
 
 pub loop-t-preserved : goal.loop-t-preserved

@@ -1,5 +1,4 @@
-use Rattle.std.proofs.Common.{◌≡◌, ◌==◌, ◌∙◌, [], codes, true, false, ap, sym, arith, map}
-use Rattle.std.proofs.lemmas.Bool.Decides.{nat_tests}
+use Rattle.std.proofs.Common.{◌≡◌, ◌∙◌, [], codes, true, false, ap, sym, map}
 use Rattle.gms_list.specs.InnerSolves.{mark_in}
 use Rattle.gms_list.specs.SolveText.{is_zero_amount, number_at_place}
 use Rattle.gms_list.proofs.Signs.{zero_told}

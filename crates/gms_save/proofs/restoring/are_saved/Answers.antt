@@ -1,5 +1,5 @@
 use Rattle.std.proofs.lemmas.Bool.{both_ways}
-use Rattle.std.proofs.Common.{◌≡◌, ◌≤◌, Bool, true, false, refl, arith, below_more}
+use Rattle.std.proofs.Common.{◌≤◌, true, false, refl, arith, below_more}
 use Rattle.gms_scope.specs.Facts.{marked}
 use Rattle.gms_save.specs.InnerRestoreSteps.{IsSavedAt}
 use Rattle.gms_save.proofs.restoring.are_saved.Goals as goal

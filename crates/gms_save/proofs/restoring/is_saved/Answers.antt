@@ -1,5 +1,5 @@
 use Rattle.std.proofs.lemmas.Bool.{both_ways}
-use Rattle.std.proofs.Common.{◌≡◌, ◌∙◌, Bool, true, false, refl, sym, ap}
+use Rattle.std.proofs.Common.{◌∙◌, true, false, refl, sym, ap}
 use Rattle.gms_save_text.specs.Validity.{are_in_range}
 use Rattle.std.proofs.lemmas.Result.{IfOk-weaker}
 use Rattle.gms_save.proofs.SavedNames.{names-from-saved, same-declares, saved-from-names}

@@ -1,5 +1,5 @@
 use Rattle.std.proofs.lemmas.Bool.{both_ways}
-use Rattle.std.proofs.Common.{◌≡◌, Bool, true, false, refl}
+use Rattle.std.proofs.Common.{true, false, refl}
 use Rattle.gms_save.proofs.restoring.is_saved_at.Goals as goal
 
 pub returns-then-not-branch : goal.returns-then-not-branch

@@ -1,5 +1,5 @@
 use Rattle.std.proofs.lemmas.Bool.{both_ways}
-use Rattle.std.proofs.Common.{◌≡◌, ◌∙◌, Bool, true, false, refl, sym}
+use Rattle.std.proofs.Common.{◌∙◌, true, false, refl, sym}
 use Rattle.gms_store.specs.State.{symbol_at}
 use Rattle.gms_save.proofs.SavedNames.{alias-members, alias-too, own-members}
 use Rattle.gms_save.proofs.restoring.keeps_members.Goals as goal

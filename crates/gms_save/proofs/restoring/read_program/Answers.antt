@@ -1,6 +1,6 @@
 use Rattle.std.proofs.lemmas.Bool.{both_ways}
 use Rattle.gms_save.proofs.Restored.{refused}
-use Rattle.std.proofs.Common.{◌≡◌, Bool, true, false, inr}
+use Rattle.std.proofs.Common.{true, false, inr}
 use Rattle.gms_save.proofs.restoring.read_program.Goals as goal
 
 pub returns-in_err-program : goal.returns-in_err-program

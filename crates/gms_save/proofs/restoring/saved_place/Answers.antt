@@ -1,5 +1,5 @@
 use Rattle.std.proofs.lemmas.Bool.{both_ways}
-use Rattle.std.proofs.Common.{◌≡◌, Bool, true, false, sym}
+use Rattle.std.proofs.Common.{true, false, sym}
 use Rattle.gms_save.proofs.restoring.saved_place.Goals as goal
 
 pub returns-then-not-branch : goal.returns-then-not-branch

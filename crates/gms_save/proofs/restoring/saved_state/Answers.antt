@@ -1,5 +1,5 @@
 use Rattle.std.proofs.lemmas.Bool.{both_ways}
-use Rattle.std.proofs.Common.{◌≡◌, ◌≤◌, ◌^◌, ℕ, Bool, true, false, List, length, sym, subst, arith}
+use Rattle.std.proofs.Common.{◌≤◌, ◌^◌, ℕ, true, false, List, length, sym, subst, arith}
 use Rattle.gq_frac.specs.Frac.{frac_value}
 use Rattle.gms_store.specs.State.{State}
 use Rattle.gms_scope.specs.DynamicSets.{dynamic_sets}

@@ -1,9 +1,9 @@
-use Rattle.std.proofs.Common.{◌≡◌, ◌+◌, ◌++◌, ◌<◌, ◌≤◌, ◌∙◌, ap, sym, arith, refl, map, length, take, rules, List, [], ◌∷◌, ℕ}
-use Rattle.gms_grammar.specs.Lines.{lines, content}
-use Rattle.gms_list.specs.ListingText.{numbered_line, numbered_from}
+use Rattle.std.proofs.Common.{◌≡◌, ◌<◌, ap, arith, refl, length, []}
+use Rattle.gms_grammar.specs.Lines.{lines}
+use Rattle.gms_list.specs.ListingText.{numbered_from}
 use Rattle.std.proofs.lemmas.Bool.Decides.{nat_tests}
 use Rattle.gms_list.proofs.Echoes.{next_line, no_lines}
-use Rattle.gms_list.proofs.AppendedPieces.{Traversed, traversal, step, broke, all, rest_is}
+use Rattle.gms_list.proofs.AppendedPieces.{traversal, step, broke, all, rest_is}
 use Rattle.gms_list.proofs.listing.Listing.echo_from.Goals as goal
 
 pub loop-number-init : goal.loop-number-init

@@ -1,4 +1,4 @@
-use Rattle.std.proofs.Common.{◌≡◌, ◌+◌, ◌≤◌, map, length}
+use Rattle.std.proofs.Common.{◌+◌, ◌≤◌, map, length}
 use Rattle.gms_grammar.specs.Lines.{lines, content}
 use Rattle.gms_list.specs.ListingText.{numbered_from, echo_text}
 use Rattle.gms_list.proofs.AppendedPieces.{Traversed}

@@ -1,11 +1,9 @@
-use Rattle.std.proofs.Common.{◌≡◌, ◌==◌, ◌∙◌, ◌++◌, arith, get_or, ap, flat_map, true, false}
-use Rattle.std.proofs.lemmas.Bool.Decides.{nat_tests}
+use Rattle.std.proofs.Common.{◌∙◌, arith, get_or, ap, flat_map}
 use Rattle.lp_core.specs.Numbers.{lp_numbers}
 use Rattle.gms_list.specs.InnerSolves.{solution_in}
 use Rattle.gms_list.specs.SolveText.{variable_points}
 use Rattle.gms_list.proofs.Counts.{variables_are}
-use Rattle.gms_list.proofs.Listed.{no_columns, some_columns}
-use Rattle.gms_list.proofs.AppendedPieces.{traversal, loop_step, loop_broke, loop_done, map_same, same_at, untouched, reshaped}
+use Rattle.gms_list.proofs.AppendedPieces.{traversal, loop_step, loop_broke, loop_done, map_same, same_at, untouched}
 use Rattle.gms_list.proofs.listing.Listing.push_all_columns.Goals as goal
 
 pub returns-in_err-variables : goal.returns-in_err-variables

@@ -1,4 +1,4 @@
-use Rattle.std.proofs.Common.{◌≡◌, ◌==◌, ◌∙◌, ◌++◌, ℕ, arith, refl, ap, flat_map, codes}
+use Rattle.std.proofs.Common.{◌==◌, ◌∙◌, ◌++◌, ℕ, arith, ap, flat_map, codes}
 use Rattle.gq_number.specs.Number.{Number}
 use Rattle.lp_core.specs.Numbers.{lp_numbers, entries_numbers}
 use Rattle.gms_list.specs.Amounts.{line_of}

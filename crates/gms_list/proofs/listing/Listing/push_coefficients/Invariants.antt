@@ -1,4 +1,4 @@
-use Rattle.std.proofs.Common.{◌==◌, ◌++◌, ℕ, flat_map, codes, drop, map}
+use Rattle.std.proofs.Common.{◌==◌, ◌++◌, ℕ, flat_map, codes, drop}
 use Rattle.gq_number.specs.Number.{Number}
 use Rattle.lp_core.specs.Numbers.{lp_numbers, row_numbers, entries_numbers}
 use Rattle.gms_list.specs.Amounts.{line_of}

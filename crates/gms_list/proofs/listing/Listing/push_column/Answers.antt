@@ -1,6 +1,6 @@
-use Rattle.gms_list.proofs.AppendedPieces.{traversal, step, broke, stop, last, untouched}
-use Rattle.std.proofs.Common.{◌∙◌, ◌++◌, codes, decimal, ap, sym}
-use Rattle.lp_core.specs.Numbers.{lp_numbers, row_numbers, column_numbers, entries_numbers}
+use Rattle.gms_list.proofs.AppendedPieces.{traversal, step, broke, last, untouched}
+use Rattle.std.proofs.Common.{◌∙◌, ◌++◌, ap}
+use Rattle.lp_core.specs.Numbers.{lp_numbers}
 use Rattle.std.proofs.Common.{flat_map}
 use Rattle.gms_list.specs.SolveText.{column_entry_line, placed_rows}
 use Rattle.gms_list.proofs.Shapes.{column_line}

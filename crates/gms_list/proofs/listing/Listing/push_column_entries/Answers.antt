@@ -1,7 +1,6 @@
-use Rattle.std.proofs.Common.{arith, refl, ap, flat_map}
-use Rattle.std.specs.List.{enumerate_from}
+use Rattle.std.proofs.Common.{arith, ap, flat_map}
 use Rattle.gms_list.proofs.AppendedPieces.{traversal, placed, placed_step, placed_broke, placed_end}
-use Rattle.lp_core.specs.Numbers.{lp_numbers, row_numbers, column_numbers}
+use Rattle.lp_core.specs.Numbers.{lp_numbers, row_numbers}
 use Rattle.gms_list.specs.SolveText.{column_entry_line}
 use Rattle.gms_list.proofs.listing.Listing.push_column_entries.Goals as goal
 

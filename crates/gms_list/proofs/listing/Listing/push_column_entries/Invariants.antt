@@ -1,6 +1,6 @@
-use Rattle.std.proofs.Common.{◌≡◌, flat_map}
+use Rattle.std.proofs.Common.{flat_map}
 use Rattle.gms_list.proofs.AppendedPieces.{Traversed, placed}
-use Rattle.lp_core.specs.Numbers.{lp_numbers, row_numbers, column_numbers}
+use Rattle.lp_core.specs.Numbers.{lp_numbers, row_numbers}
 use Rattle.gms_list.specs.SolveText.{column_entry_line, placed_rows}
 use Rattle.gms_list.proofs.listing.Listing.push_column_entries.Given as goal
 

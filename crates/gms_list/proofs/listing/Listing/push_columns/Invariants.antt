@@ -1,4 +1,4 @@
-use Rattle.std.proofs.Common.{◌≡◌, ℕ, ◌==◌, flat_map, filter, take}
+use Rattle.std.proofs.Common.{ℕ, ◌==◌, flat_map, filter, take}
 use Rattle.gq_number.specs.Number.{Number}
 use Rattle.lp_core.specs.declared.program.Column.{Column}
 use Rattle.lp_core.specs.Numbers.{lp_numbers, column_numbers}

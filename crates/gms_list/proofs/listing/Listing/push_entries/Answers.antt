@@ -1,6 +1,5 @@
-use Rattle.std.proofs.Common.{◌≡◌, ◌∙◌, ap, ap₂, map, ℕ, List, flat_map}
+use Rattle.std.proofs.Common.{◌≡◌, ◌∙◌, ap, map, ℕ, List, flat_map}
 use Rattle.gq_extended.specs.Meaning.{extended}
-use Rattle.gq_extended.specs.Extended.{Extended}
 use Rattle.gms_event.specs.EventView.{shown_in}
 use Rattle.gms_list.specs.ListingText.{entry_text, tuple_width, TupleValues}
 use Rattle.gms_list.proofs.AppendedPieces.{untouched, reshaped}

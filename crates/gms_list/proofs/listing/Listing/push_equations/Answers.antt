@@ -1,8 +1,8 @@
-use Rattle.std.proofs.Common.{◌≡◌, ◌==◌, ◌∙◌, ◌++◌, arith, get_or, refl, sym, ap, flat_map, true, false}
+use Rattle.std.proofs.Common.{◌≡◌, ◌==◌, ◌∙◌, ◌++◌, arith, get_or, sym, ap, flat_map, true, false}
 use Rattle.std.proofs.lemmas.Bool.Decides.{nat_tests}
 use Rattle.std.proofs.lemmas.List.{append-nil}
 use Rattle.lp_core.specs.Numbers.{lp_numbers}
-use Rattle.gms_list.proofs.AppendedPieces.{traversal, loop_step, loop_broke, loop_done, untouched, reshaped, map_same, same_at}
+use Rattle.gms_list.proofs.AppendedPieces.{traversal, loop_step, loop_broke, loop_done, reshaped, map_same, same_at}
 use Rattle.gms_list.specs.SolveText.{equation_text}
 use Rattle.gms_list.proofs.Listed.{no_rows, some_rows}
 use Rattle.gms_list.proofs.listing.Listing.push_equations.Goals as goal

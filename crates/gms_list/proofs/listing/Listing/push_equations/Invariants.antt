@@ -1,4 +1,4 @@
-use Rattle.std.proofs.Common.{◌≡◌, flat_map, map, drop}
+use Rattle.std.proofs.Common.{flat_map, map, drop}
 use Rattle.lp_core.specs.Numbers.{lp_numbers}
 use Rattle.gms_list.proofs.AppendedPieces.{Traversed}
 use Rattle.gms_list.specs.SolveText.{equation_text}

@@ -1,5 +1,5 @@
-use Rattle.std.proofs.Common.{arith, refl, get_or, ap, flat_map}
-use Rattle.gms_list.proofs.AppendedPieces.{traversal, map_same, same_at, loop_step, loop_broke, loop_done, untouched}
+use Rattle.std.proofs.Common.{arith, get_or, ap, flat_map}
+use Rattle.gms_list.proofs.AppendedPieces.{traversal, map_same, same_at, loop_step, loop_broke, loop_done}
 use Rattle.std.proofs.Common.{ℕ, codes, ◌++◌}
 use Rattle.gms_list.specs.ListingText.{pair_text}
 use Rattle.gms_list.proofs.listing.Listing.push_further.Goals as goal

@@ -1,4 +1,4 @@
-use Rattle.std.proofs.Common.{◌≡◌, flat_map, map, drop}
+use Rattle.std.proofs.Common.{flat_map, map, drop}
 use Rattle.gms_list.proofs.AppendedPieces.{Traversed}
 use Rattle.gms_event.specs.EventView.{shown_in}
 use Rattle.gms_list.specs.ListingText.{item_text, items_text}

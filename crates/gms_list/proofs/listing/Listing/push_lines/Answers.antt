@@ -1,4 +1,4 @@
-use Rattle.std.proofs.Common.{◌≡◌, ◌≢◌, [], ap, ◌∙◌, map, rules, true, false, IsTrue, ◌↔◌, Bool, flat_map}
+use Rattle.std.proofs.Common.{◌≡◌, ◌≢◌, [], ap, ◌∙◌, map, rules, flat_map}
 use Rattle.gms_list.proofs.AppendedPieces.{reshaped}
 use Rattle.gms_list.proofs.Displayed.{no_entry, set_entries, other_entries, seen_none, seen_some}
 use Rattle.gms_list.specs.ListingText.{member_text, nothing_text}

@@ -1,5 +1,5 @@
-use Rattle.std.proofs.Common.{arith, refl, get_or}
-use Rattle.gms_list.proofs.AppendedPieces.{traversal, loop_step, loop_broke, loop_done, untouched}
+use Rattle.std.proofs.Common.{arith, refl}
+use Rattle.gms_list.proofs.AppendedPieces.{traversal, loop_step, loop_broke, loop_done}
 use Rattle.gq_extended.specs.Meaning.{extended}
 use Rattle.gms_list.specs.ListingText.{member_text}
 use Rattle.gms_list.proofs.listing.Listing.push_members.Goals as goal

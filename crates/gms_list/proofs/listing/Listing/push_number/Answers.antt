@@ -1,12 +1,9 @@
-use Rattle.std.proofs.Common.{◌≡◌, ◌∙◌, ◌++◌, ap, sym, codes, [], List, ℕ, Bool, if◌then◌else◌, true, false}
+use Rattle.std.proofs.Common.{◌≡◌, ◌∙◌, ◌++◌, ap, sym, [], List, ℕ, Bool, if◌then◌else◌, true, false}
 use Rattle.std.proofs.lemmas.List.{append-nil}
 use Rattle.gms_list.proofs.AppendedPieces.{untouched, reshaped}
 use Rattle.gms_list.proofs.Shapes.{number_line}
 use Rattle.gms_list.proofs.Signs.{zero_told}
-use Rattle.gq_text.specs.ExactText.{exact_text}
-use Rattle.gms_list.specs.Amounts.{line_of}
 use Rattle.gms_list.specs.SolveText.{is_zero_amount}
-use Rattle.gms_fmt.specs.ElementTexts.{element_text}
 use Rattle.gms_list.proofs.listing.Listing.push_number.Goals as goal
 
 -- nothing, or the line, by the test for 0

@@ -1,6 +1,6 @@
-use Rattle.std.proofs.Common.{arith, refl, get_or, ap, ◌∙◌, ◌++◌, subst}
+use Rattle.std.proofs.Common.{arith, refl, ap, ◌∙◌, ◌++◌, subst}
 use Rattle.gms_fmt.specs.Columns.{IsExtendedByPrefix}
-use Rattle.gms_list.proofs.AppendedPieces.{traversal, loop_step, loop_broke, loop_done, untouched}
+use Rattle.gms_list.proofs.AppendedPieces.{traversal, loop_step, loop_broke, loop_done}
 use Rattle.gq_extended.specs.Meaning.{extended}
 use Rattle.gms_list.specs.ListingText.{number_text}
 use Rattle.gms_list.proofs.listing.Listing.push_numbers.Goals as goal

@@ -1,4 +1,4 @@
-use Rattle.std.proofs.Common.{◌≡◌, flat_map, map, drop}
+use Rattle.std.proofs.Common.{flat_map, map, drop}
 use Rattle.gms_list.proofs.AppendedPieces.{Traversed}
 use Rattle.gq_extended.specs.Meaning.{extended}
 use Rattle.gms_list.specs.ListingText.{number_text}

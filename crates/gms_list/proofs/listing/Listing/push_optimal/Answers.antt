@@ -1,4 +1,4 @@
-use Rattle.gms_list.proofs.AppendedPieces.{traversal, step, broke, stop, last, untouched}
+use Rattle.gms_list.proofs.AppendedPieces.{traversal, step, broke, last}
 use Rattle.std.proofs.Common.{refl}
 use Rattle.gms_list.proofs.listing.Listing.push_optimal.Goals as goal
 

@@ -1,4 +1,4 @@
-use Rattle.std.proofs.Common.{◌∙◌, ◌≢◌, ap, sym, codes, map, refl, length, subst, true, false, None, List}
+use Rattle.std.proofs.Common.{◌∙◌, ◌≢◌, ap, sym, codes, map, refl, length, subst, true, false, None}
 use Rattle.lp_check.specs.BoundSteps.{objective_bound}
 use Rattle.gms_list.specs.Conditions.{HasProof}
 use Rattle.gms_list.proofs.AppendedPieces.{traversal, step, broke, last, untouched}

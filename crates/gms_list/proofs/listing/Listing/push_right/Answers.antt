@@ -1,5 +1,5 @@
 use Rattle.std.proofs.Common.{codes, refl}
-use Rattle.gms_list.proofs.AppendedPieces.{traversal, step, broke, last}
+use Rattle.gms_list.proofs.AppendedPieces.{traversal, broke}
 use Rattle.gms_list.proofs.listing.Listing.push_right.Goals as goal
 
 pub returns-in_err-push : goal.returns-in_err-push

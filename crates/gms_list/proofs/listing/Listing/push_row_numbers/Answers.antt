@@ -1,5 +1,4 @@
-use Rattle.std.proofs.Common.{arith, refl, ap, flat_map}
-use Rattle.std.specs.List.{enumerate_from}
+use Rattle.std.proofs.Common.{arith, ap, flat_map}
 use Rattle.gms_list.proofs.AppendedPieces.{traversal, placed, placed_step, placed_broke, placed_end}
 use Rattle.std.proofs.Common.{ℕ, map}
 use Rattle.gq_number.specs.Number.{Number}

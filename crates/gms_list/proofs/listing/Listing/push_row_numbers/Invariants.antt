@@ -1,4 +1,4 @@
-use Rattle.std.proofs.Common.{◌≡◌, flat_map}
+use Rattle.std.proofs.Common.{flat_map}
 use Rattle.gms_list.proofs.AppendedPieces.{Traversed, placed}
 use Rattle.std.proofs.Common.{ℕ, map}
 use Rattle.gq_number.specs.Number.{Number}

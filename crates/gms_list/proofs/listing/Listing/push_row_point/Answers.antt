@@ -4,7 +4,7 @@ use Rattle.std.proofs.lemmas.List.{append-nil}
 use Rattle.lp_core.specs.Numbers.{lp_numbers, row_numbers}
 use Rattle.gms_list.specs.InnerSolves.{solution_in}
 use Rattle.gms_list.specs.SolveText.{row_point}
-use Rattle.gms_list.proofs.Shapes.{point_same, bound_mapped}
+use Rattle.gms_list.proofs.Shapes.{point_same}
 use Rattle.gms_list.proofs.AppendedPieces.{reshaped, chosen, other}
 use Rattle.gms_list.proofs.listing.Listing.push_row_point.Goals as goal
 

@@ -1,4 +1,4 @@
-use Rattle.gms_list.proofs.AppendedPieces.{traversal, step, broke, stop, last, untouched}
+use Rattle.gms_list.proofs.AppendedPieces.{traversal, step, broke, last}
 use Rattle.std.proofs.Common.{refl, codes, ap, map, flat_map}
 use Rattle.gq_extended.specs.Meaning.{extended}
 use Rattle.gms_list.specs.ListingText.{number_text}

@@ -1,5 +1,5 @@
 use Rattle.gms_list.proofs.AppendedPieces.{traversal, step, broke, stop, last, untouched}
-use Rattle.std.proofs.Common.{◌∙◌, ◌++◌, codes, decimal, ap, sym}
+use Rattle.std.proofs.Common.{◌∙◌, ap}
 use Rattle.gms_list.specs.ListingText.{count_text, pairs_text}
 use Rattle.gms_list.proofs.Shapes.{stop_line}
 use Rattle.gms_list.proofs.listing.Listing.push_stop.Goals as goal

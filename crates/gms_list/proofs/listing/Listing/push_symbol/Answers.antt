@@ -1,5 +1,5 @@
-use Rattle.gms_list.proofs.AppendedPieces.{traversal, step, broke, stop, last, untouched}
-use Rattle.std.proofs.Common.{◌∙◌, ◌++◌, codes, decimal, ap, sym}
+use Rattle.gms_list.proofs.AppendedPieces.{traversal, step, broke, last, untouched}
+use Rattle.std.proofs.Common.{◌∙◌}
 use Rattle.gms_event.specs.EventView.{shown_in}
 use Rattle.gms_list.specs.ListingText.{values_text}
 use Rattle.gms_list.proofs.Shapes.{symbol_item}

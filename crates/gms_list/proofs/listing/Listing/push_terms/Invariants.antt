@@ -1,7 +1,7 @@
-use Rattle.std.proofs.Common.{◌≡◌, flat_map, map, drop, ℕ}
+use Rattle.std.proofs.Common.{flat_map, drop}
 use Rattle.lp_core.specs.Numbers.{lp_numbers, entries_numbers}
 use Rattle.gms_list.proofs.AppendedPieces.{Traversed}
-use Rattle.gms_list.specs.SolveText.{term_text, terms_text}
+use Rattle.gms_list.specs.SolveText.{term_text}
 use Rattle.gms_list.proofs.listing.Listing.push_terms.Given as goal
 
 abbrev pub invariant-loop-j : goal.invariant-loop-j

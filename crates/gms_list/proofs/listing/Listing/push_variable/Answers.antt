@@ -1,5 +1,5 @@
 use Rattle.gms_list.proofs.AppendedPieces.{traversal, step, broke, last}
-use Rattle.std.proofs.Common.{◌∙◌, ◌++◌, ◌==◌, codes, ap, flat_map, take, if◌then◌else◌}
+use Rattle.std.proofs.Common.{◌∙◌, ◌++◌, codes, ap, flat_map, take}
 use Rattle.lp_core.specs.Numbers.{lp_numbers}
 use Rattle.gms_fmt.specs.ElementTexts.{label_in_table}
 use Rattle.gms_list.specs.Amounts.{line_of}

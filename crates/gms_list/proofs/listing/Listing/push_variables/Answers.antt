@@ -2,7 +2,6 @@ use Rattle.std.proofs.Common.{◌≡◌, ◌==◌, ◌∙◌, ◌++◌, arith, g
 use Rattle.std.proofs.lemmas.Bool.Decides.{nat_tests}
 use Rattle.std.proofs.lemmas.List.{append-nil}
 use Rattle.lp_core.specs.Numbers.{lp_numbers}
-use Rattle.gms_list.specs.InnerSolves.{solution_in}
 use Rattle.gms_list.specs.SolveText.{variable_text}
 use Rattle.gms_list.proofs.Counts.{variables_are}
 use Rattle.gms_list.proofs.Listed.{no_columns, some_columns}

@@ -1,6 +1,5 @@
 use Rattle.std.proofs.Common.{flat_map, map, drop}
 use Rattle.lp_core.specs.Numbers.{lp_numbers}
-use Rattle.gms_list.specs.InnerSolves.{solution_in}
 use Rattle.gms_list.proofs.AppendedPieces.{Traversed}
 use Rattle.gms_list.specs.SolveText.{variable_text, variables}
 use Rattle.gms_list.proofs.listing.Listing.push_variables.Given as goal
