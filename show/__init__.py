@@ -1,3 +1,3 @@
 """Reads listings of gams25: tables, records, differences, reasons, checks and pictures."""
 
-VERSION = '1.6'
+VERSION = '1.7'
