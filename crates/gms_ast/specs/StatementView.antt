@@ -85,12 +85,12 @@ module _ {F N : Type 0} (value : F → N) where
   abbrev pub statement_view_step : Stmt-F F (Act N) (Statements N → Statements N) → Statements N → Statements N
   statement_view_step node others = statement node.at node.act others
 
-  -- a statement as contracts compare it, put before other statements; each number v in it, of F, is
-  -- replaced by `value v`, the number of N that v means
+  -- a statement, put before other statements; each number v of F in the statement is replaced by
+  -- `value v`, the number of N that v means
   abbrev pub statement_view : Stmt F → Statements N → Statements N
   statement_view = fold-Stmt F (Act N) (Statements N → Statements N) act_view_step statement_view_step
 
-  -- the statements of a program, in order, as contracts compare them; each number v in them, of F,
-  -- is replaced by `value v`, the number of N that v means
+  -- the statements of a program, in order; each number v of F in them is replaced by `value v`, the
+  -- number of N that v means
   abbrev pub statements_view : List (Stmt F) → Statements N
   statements_view statements = statements_in_order (map statement_view statements)

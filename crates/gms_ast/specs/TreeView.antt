@@ -80,7 +80,7 @@ module _ {F : Type 0} where
   abbrev pub tree_of : Expr F → Tree F
   tree_of = fold-Expr F (Tree F) (Indices F → Indices F) (Control F) tree_step index_step control_step
 
-  -- an index of a program put before others
+  -- the view of an index, put before the views of other indices
   abbrev pub index_tree : Index F → Indices F → Indices F
   index_tree = fold-Index F (Tree F) (Indices F → Indices F) (Control F) tree_step index_step control_step
 

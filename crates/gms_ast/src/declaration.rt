@@ -29,14 +29,14 @@ pub enum DeclKind {
 
 /// One name that is declared, with its domain and its data.
 ///
-/// In `parameter p(i,*) "a text" /a.x 5/;` the name is `p`, the domain is `i` and any label, and
-/// the data are one item.
+/// In `parameter p(i,*) /a.x 5/;` the name is `p`, the domain is the set `i` and any label, and the
+/// data are one item.
 #[derive(Debug)]
 pub struct Decl<F> {
     /// The declared name, with its place in the source.
     pub named: Named,
-    /// For each position of the name, in order, the set that the domain has there, or `None` for a
-    /// `*`, which admits any label.
+    /// For each position of the domain, in order, its set, or `None` for a `*`, which admits any
+    /// label.
     pub domain: Sequence<Option<Named>>,
     /// The items of data that the declaration gives the name, in order. Each entry of a table is
     /// one item.
@@ -54,8 +54,7 @@ impl<F: Drop> Drop for Decl<F> {
     }
 }
 
-/// One item of data: the labels of one or more elements, and the value that the item gives each of
-/// them.
+/// One item of data: the labels of one or more elements, and the value that it gives each element.
 ///
 /// In `/a.(b,c) 5/` the elements are `a.b` and `a.c`: the first position has one label, the second
 /// has two, and the value is 5.
@@ -63,9 +62,9 @@ impl<F: Drop> Drop for Decl<F> {
 pub struct Item<F> {
     /// The place of the item's first character; for an entry of a table, the place of the number.
     pub at: Place,
-    /// For each position of the elements, in order, the labels that the item lists there, by their
-    /// numbers in the table of labels. A range, as `a1*a3`, counts as all its labels, and an
-    /// invalid range as none.
+    /// The labels that the item lists at each position of its elements, by their numbers in the
+    /// table of labels; empty for a scalar. A range, as `a1*a3`, lists all its labels, an invalid
+    /// one none.
     pub parts: Sequence<Sequence<u32>>,
     /// The value that the item gives its elements: a number, an infinity or NA; `None` if the item
     /// has no value, as in `/a/`.
@@ -94,10 +93,10 @@ impl<F: Drop> Drop for Item<F> {
 pub struct ModelDecl {
     /// The name of the model, with its place in the source.
     pub named: Named,
-    /// Whether the model has all equations that are declared before its statement, as in
-    /// `model m /all/;`. If so, `equations` has no meaning.
+    /// Whether the model has all equations declared before the model, as in `model m /all/;`. If
+    /// so, the field `equations` has no meaning.
     pub all: bool,
-    /// The equations that the declaration of the model lists by name, in order.
+    /// The equations that the model's declaration lists, in the list's order.
     pub equations: Sequence<Named>,
 }
 

@@ -97,11 +97,11 @@ pub enum RelOp {
 
 /// An expression, whose numbers are of the field `F`.
 ///
-/// Parentheses, a sign `+` and a production of the grammar without an operator add no node. The
-/// place of a part of a sum, a product or a power is that of the part's first character, which may
-/// be a sign. A flag or a relation of a part tells the operator before the part: the flag is true
-/// for `-`, `/` and `xor`, and false for `+`, `*` and `or`. The first part has no operator before
-/// it, so its flag, which is false, or its relation, which is `Eq`, has no meaning.
+/// Parentheses and a sign `+` make no node. A part is an operand of a sum, a product, a power, a
+/// relation, an `or` or an `xor`. The place of a part is that of its first character, which may be
+/// a sign. The flag or the relation of a part is the operator before it: the flag is true for `-`,
+/// `/` and `xor`, and false for `+`, `*` and `or`. The first part has no operator before it, so its
+/// flag, which is false, or its relation, which is `Eq`, has no meaning.
 #[cycle(expression)]
 pub enum Expr<F> {
     /// A number, as `2.5`.

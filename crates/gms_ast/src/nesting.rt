@@ -10,9 +10,8 @@ use gms_labels::Place;
 
 /// The nesting of an expression, or the greatest `u32` if the nesting is greater than that.
 ///
-/// The nesting is 1 for an expression without expressions among its direct parts, else one more
-/// than the greatest nesting of these parts. The amounts of lags and the conditions of folds are
-/// direct parts, too.
+/// The nesting is one more than the greatest nesting of the expression's direct subexpressions, and
+/// 1 without these. The amounts of lags and the conditions of folds are direct subexpressions, too.
 #[cycle(nesting)]
 pub fn depth<F>(e: &Expr<F>) -> u32
     ensures { result ≡ capped (nesting (tree_of e.now)) }

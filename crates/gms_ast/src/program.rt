@@ -8,9 +8,9 @@ use gms_labels::{Labels, Place};
 /// A program: its two tables, which give names and labels their numbers, and its statements in
 /// order.
 pub struct Program<F> {
-    /// The table of names, numbered in order of first appearance.
+    /// The table of names, numbered from 0 by first appearance.
     pub names: Labels,
-    /// The table of labels, numbered in order of first appearance.
+    /// The table of labels, numbered from 0 by first appearance.
     pub labels: Labels,
     /// The statements of the program, in order.
     pub statements: Vec<Stmt<F>>,
@@ -182,7 +182,7 @@ impl<F: Drop> Drop for Act<F> {
     }
 }
 
-/// What an assignment assigns.
+/// An assignment's left side.
 ///
 /// In `x.lo(i,"a") = 3;` it is `x.lo(i,"a")`.
 #[derive(Drop)]

@@ -13,8 +13,8 @@ pub struct Named {
     pub name: u32,
 }
 
-/// A word or a text that is in no table of the program: its place in the source, and its bytes as
-/// they were written, without quotation marks.
+/// A word or a text of the source that is used neither as a name nor as a label: its place in the
+/// source, and its bytes as they were written, without quotation marks.
 ///
 /// In `solve m using lp minimizing z;` it is `lp`, and in `display "costs", c;` it is `costs`.
 #[derive(Debug)]

@@ -47,11 +47,11 @@ pub record Solved : Type 0 where
 
 -- What a statement shows, or why the run stops.
 pub data Event : Type 0 where
-  -- a display: the line of its statement, and what is shown for its items
+  -- a display: its line number, and what is shown for its items
   displays : ℕ → List Shown → Event
   -- a solve, and what it shows
   solves : Solved → Event
-  -- an abort: the line of its statement, and what is shown for its items
+  -- an abort: its line number, and what is shown for its items
   aborts : ℕ → List Shown → Event
   -- the run stops with this fault
   stops : Fault → Event

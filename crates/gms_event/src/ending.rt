@@ -9,9 +9,8 @@ use lp_core::End;
 /// ended (`end`). Optimal, Unbounded and Infeasible give the status of that name. Interrupted gives
 /// Intermediate in phase 1, else Feasible. Refused gives Unanswered.
 ///
-/// The state of the run, the values `m.modelstat` and `m.solvestat`, and the listing take their
-/// numbers and texts from this status. GAMS User's Guide, "GAMS Output", model status and solver
-/// status.
+/// The status has a number each for `m.modelstat` and `m.solvestat`, and texts that the listing
+/// shows. GAMS User's Guide, "GAMS Output", model status and solver status.
 pub fn solve_status<F>(end: &End<F>) -> SolveStatus
     ensures { result ≡ solve_status end.now }
 {

@@ -6,7 +6,7 @@ use gms_tuple::Tuple;
 use gq_extended::Ext;
 use lp_core::Lp;
 
-/// What a statement of a run shows, or why the run stops.
+/// What a statement shows in a run, or why the run stops.
 ///
 /// `display "costs", c, x.l;` is one event of three items. GAMS User's Guide, "GAMS Output".
 #[derive(Drop)]
@@ -52,19 +52,20 @@ pub enum Event<F> {
 pub struct Shown<F> {
     /// The text that is shown; empty if a symbol is shown.
     pub text: Sequence<u8>,
-    /// The number of the name of the symbol that is shown; `None` if a text is shown.
+    /// The shown symbol's number in the table of names; `None` if a text is shown.
     pub name: Option<u32>,
     /// The kind of the symbol that is shown, such as a variable or a parameter; `Undeclared` if a
     /// text is shown.
     pub kind: SymbolKind,
-    /// The suffix whose values are shown, such as `.l` for levels; `None` for the plain values, and
-    /// for a text.
+    /// The suffix with which the symbol is shown, as `.l`; `Suffix::None` without one, and for a
+    /// text.
     pub suffix: Suffix,
-    /// Whether the symbol that is shown has indices. A symbol without indices has exactly one
-    /// entry, even if its value is 0.
+    /// Whether the symbol has indices; false for a text. A symbol without indices has exactly one
+    /// entry, even with value 0.
     pub indexed: bool,
-    /// The tuples of the symbol that is shown, each with its value, in the order of tuples; empty
-    /// if a text is shown. If the symbol has indices, tuples with the value 0 are left out.
+    /// The tuples at which the symbol is shown, each with its value; none for a text. They are in
+    /// lexicographic order of the numbers of their labels. The value of a member of a set is 1. If
+    /// the symbol has indices, tuples with the value 0 are left out.
     pub entries: Sequence<(Tuple, Ext<F>)>,
     /// The number of digits after the decimal point with which values are shown.
     pub decimals: u8,

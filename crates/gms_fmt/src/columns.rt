@@ -16,8 +16,7 @@ fn push_blanks(count: usize, into: &mut Vec<u8>) -> Result<(), AllocError>
 /// Appends a text to `into`, at the right edge of a column of `width` bytes: blanks, then the text.
 /// A text that is longer than the column is appended whole, without blanks.
 ///
-/// If memory runs out, a prefix of the blanks and the text is appended. GAMS User's Guide, "GAMS
-/// Output".
+/// If memory runs out, a prefix of these bytes is appended. GAMS User's Guide, "GAMS Output".
 pub fn right(_alloc: Global, text: &str, width: usize, into: &mut Vec<u8>) -> Result<(), AllocError>
     ensures { Appends result into.old.items into.new.items (right_in width text.now) }
 {
@@ -28,8 +27,7 @@ pub fn right(_alloc: Global, text: &str, width: usize, into: &mut Vec<u8>) -> Re
 /// Appends a text to `into`, at the left edge of a column of `width` bytes: the text, then blanks.
 /// A text that is longer than the column is appended whole, without blanks.
 ///
-/// If memory runs out, a prefix of the text and the blanks is appended. GAMS User's Guide, "GAMS
-/// Output".
+/// If memory runs out, a prefix of these bytes is appended. GAMS User's Guide, "GAMS Output".
 pub fn left(_alloc: Global, text: &str, width: usize, into: &mut Vec<u8>) -> Result<(), AllocError>
     ensures { Appends result into.old.items into.new.items (left_in width text.now) }
 {

@@ -34,9 +34,9 @@ fn push_labels(
     Ok(())
 }
 
-/// The text of the element with the name `name` and the labels `t`: `x` if there are no labels, and
-/// else `x(a,b)`. Names and labels are as they were first written; a number past the end of its
-/// table has the empty text. The error is out of memory.
+/// The text of the element of the name `name` with the labels `t`: `x` without labels, else
+/// `x(a,b)`. Names and labels are as they were first written; a number past the end of `names` or
+/// `labels` has the empty text. The error is out of memory.
 pub fn element(
     alloc: Global,
     names: &Labels,
@@ -55,8 +55,8 @@ pub fn element(
     Ok(text)
 }
 
-/// The text of a tuple: its labels with dots between them, as `a.b`. Labels are as they were first
-/// written; a number past the end of the table `labels` has the empty text. The error is out of
+/// The text of a tuple: its labels, as they were first written, with dots between them, as `a.b`. A
+/// label's number past the end of the table `labels` has the empty text. The error is out of
 /// memory.
 pub fn dotted(alloc: Global, labels: &Labels, t: &Tuple) -> Result<String, AllocError>
     ensures { IfOk result (λ text. string_bytes text ≡ dotted_text labels.now t.now) }

@@ -103,11 +103,11 @@ fn push_costs(
     Ok(())
 }
 
-/// The source text of a transport model with this many plants and this many markets: the model
-/// minimizes the cost of the shipments, as in GAMS User's Guide, "A GAMS Tutorial by Richard E.
-/// Rosenthal". Its data are drawn from `seed`.
+/// The GAMS source of a transport model with `plants` plants and `markets` markets. It minimizes
+/// the cost of the shipments, as in GAMS User's Guide, "A GAMS Tutorial by Richard E. Rosenthal".
+/// Its data are pseudo-random numbers from `seed`.
 ///
-/// The same arguments give the same text each time. The only error is out of memory.
+/// The same arguments give the same text. The only error is out of memory.
 pub fn generate(alloc: Global, seed: u64, plants: u32, markets: u32) -> Result<String, AllocError>
     ensures { IfOk result (λ text. string_bytes text ≡ generated_model_text seed plants markets) }
 {

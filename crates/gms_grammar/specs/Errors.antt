@@ -22,8 +22,8 @@ lex_error_name LongLabel = codes "LongLabel"
 lex_error_name LongLine = codes "LongLine"
 lex_error_name UnknownControl = codes "UnknownControl"
 
--- The fault f is at a lesser byte than g, or at the same byte with an error number that is at most
--- that of g.
+-- The fault f is at an earlier byte than g, or at the same byte with an error number that is at
+-- most that of g.
 abbrev pub IsBefore : ByteFault → ByteFault → Type 0
 IsBefore f g = (f.at < g.at) ⊎ ((f.at ≡ g.at) × (lex_error_code f.error ≤ lex_error_code g.error))
 

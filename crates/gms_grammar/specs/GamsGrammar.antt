@@ -51,14 +51,14 @@ bracketed part = token LeftParen · part · token RightParen
 abbrev pub comma_list : Part Terminal Nonterminal → Part Terminal Nonterminal
 comma_list part = part · many (token Comma · part)
 
--- one or more of a part, in a list between slashes, with commas or line ends between them
+-- one or more of a part, with a comma or a line end between each two
 abbrev pub separated : Part Terminal Nonterminal → Part Terminal Nonterminal
 separated part = part · many (any_of (Comma ∷ Break ∷ []) · part)
 
--- One or more items of a declaration, with a comma or a line end between them, and perhaps a line
--- end after the last: item { ("," | Break) item } [Break]. `item` is the nonterminal of one item
--- and `again` that of these items. The form is recursive, since one token cannot distinguish the
--- last Break from one between items.
+-- One or more items of a declaration, with a comma or a line end (`Break`) between them, and
+-- perhaps a line end after the last: item { ("," | Break) item } [Break]. `item` is the nonterminal
+-- of one item, `again` that of these items. The form is recursive: one token cannot tell the last
+-- Break from one between items.
 abbrev pub items : Nonterminal → Nonterminal → Part Terminal Nonterminal
 items item again = the item · opt (token Comma · the again ∣ token Break · opt (the again))
 
@@ -96,7 +96,7 @@ productions KeywordStatement =
     the SetStatement ∣ the ParameterStatement ∣ the ScalarStatement ∣ the TableStatement ∣ the VariableStatement ∣ the EquationStatement ∣ the ModelStatement ∣ the AliasStatement ∣ the DisplayStatement ∣ the OptionStatement ∣ the SolveStatement ∣ the AbortStatement ∣ the LoopStatement
 -- An assignment or a definition: Target [Condition] "=" Expression, or name ["(" (text | name) {
 -- "," (text | name) } ")"] [Condition] ".." Expression sense Expression. They begin alike, up to
--- `=` or `..`; a suffix or a lag leaves only the assignment.
+-- `=` or `..`; a suffix or a lag admits only an assignment.
 productions NamedStatement = name · the AfterName
 productions AfterName = the Attribute · opt (bracketed (the IndexList)) · the AfterTarget ∣ token LeftParen · the HeadIndices ∣ the AfterHead
 productions HeadIndices = token Text · the AfterHeadIndex ∣ name · the AfterHeadName

@@ -19,8 +19,9 @@ longest_line = 32768
 abbrev pub is_control_byte : ℕ → Bool
 is_control_byte b = (nat_lt b 32 && not (b == 9)) || b == 127
 
--- Whether no line of this class may contain the byte, whatever surrounds it. Code may contain bytes
--- above 127 in texts.
+-- Whether no line of this class may contain the byte, whatever surrounds it: a control byte
+-- (`is_control_byte`), and in a control line also a byte above 127. Code may contain bytes above
+-- 127 in texts.
 abbrev pub is_bad : Class → ℕ → Bool
 is_bad Comment b = is_control_byte b
 is_bad Control b = is_control_byte b || nat_lt 127 b
@@ -33,9 +34,9 @@ is_unknown_control Control line = not (is_word_among (first_word line) control_w
 is_unknown_control Comment line = false
 is_unknown_control Code line = false
 
--- The line has this error at its byte k. `inside` is whether the line is inside a block of comment,
--- and `others` are the lines after it. BadByte is at the bad byte; a block that is not ended
--- (OpenText), a long line and an unknown control word are at byte 0. OpenQuote and LongLabel are no
+-- The line has this error at its byte k, from 0. `inside`: the line is in a block of comment;
+-- `others`: the lines after it. BadByte is at any bad byte. OpenText (the line begins a block that
+-- no later line ends), LongLine and UnknownControl are at byte 0. OpenQuote and LongLabel are no
 -- errors of a line.
 abbrev pub IsLineError : Bool → List ℕ → List (List ℕ) → ℕ → LexError → Type 0
 IsLineError inside line others k BadByte = (k < length (content line)) × (is_bad (class_of inside line) (get_or (content line) k 0) ≡ true)

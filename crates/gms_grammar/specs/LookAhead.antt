@@ -44,10 +44,10 @@ module _ {C N : Type 0} (ahead : LookAhead C N) where
   abbrev pub Apart : (C → Bool) → (C → Bool) → Type 0
   Apart f g = (c : C) → f c ≡ true → g c ≡ true → ⊥
 
-  -- One token decides how to continue in a part, where `after` is the test that each token after
-  -- the part passes. Alternatives are not empty, and no token begins both. What may be left out or
-  -- repeated is not empty, and no token that begins it may follow it. Some kind of token passes the
-  -- test of a single token. Each token after a nonterminal is one that `ahead.follow` allows.
+  -- One token decides how to read a part; a token that may follow the part passes the test `after`.
+  -- No alternative derives the empty text, and no token begins both. What may be left out or
+  -- repeated derives no empty text, and no token that begins it may follow it. Some kind of token
+  -- passes the test of a single token. A token that may follow a nonterminal passes `follow`.
   abbrev pub IsDecided : Part C N → (C → Bool) → Type 0
   IsDecided (one test) after = (c : C) × (test c ≡ true)
   IsDecided (the n) after = (c : C) → after c ≡ true → ahead.follow n c ≡ true

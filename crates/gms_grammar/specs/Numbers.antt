@@ -43,6 +43,7 @@ exponent_length rest =
 abbrev pub decimal_length : List ℕ → ℕ
 decimal_length text = digit_count text + point_length (drop (digit_count text) text)
 
--- how many bytes the number at the start of a text takes
+-- how many bytes the number at the start of a text takes: its decimal, and its exponent if it has
+-- one
 abbrev pub number_length : List ℕ → ℕ
 number_length text = decimal_length text + exponent_length (drop (decimal_length text) text)

@@ -14,7 +14,7 @@ statement = the NamedStatement ∣ the KeywordStatement
 abbrev pub plain_program : Part Terminal Nonterminal
 plain_program = opt statement · many (token Semicolon · opt statement ∣ the KeywordStatement)
 
--- A definition of an equation: a name, perhaps with texts and names as indices, perhaps a
+-- A definition of an equation: a name, perhaps with quoted labels and names as indices, perhaps a
 -- condition, and the sides.
 abbrev pub plain_definition : Part Terminal Nonterminal
 plain_definition = name · opt (bracketed (comma_list (token Text ∣ name))) · opt (the Condition) · token DotDot · the Sides

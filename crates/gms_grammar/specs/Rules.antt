@@ -9,9 +9,9 @@ use Rattle.gms_grammar.specs.Reading.{read, stuck, Reads, Takes}
 use Rattle.gms_grammar.specs.GamsGrammar.{Nonterminal, productions}
 use Rattle.gms_grammar.specs.GamsLookAhead.{look_ahead}
 
--- A rule of the faults of tokens: of those that the grammar expects, and of an unexpected one. A
--- token is its kind with data D; W is the type of the state after tokens, E that of faults, and R
--- that of the results in place of a tree, some of which report a fault.
+-- Which faults a token has that the grammar expects, and which an unexpected one. A token is its
+-- kind with data D; W is the type of the state after tokens, E that of faults, and R that of the
+-- results in place of a tree, some of which report a fault.
 pub record Rule (D W E R : Type 0) : Type 1 where
   -- the state after a token, from the state before it and the kind of the token that follows
   pub after : W → Terminal × D → Terminal → W
@@ -98,10 +98,10 @@ module _ {K D W E R : Type 0} (rules : K → Rule D W E R) (key : K) where
     pub are_sound : AreFaultless (rules key) w before token.0
     pub is_faulty : (rules key).Faulty (left_by (rules key).after w before token.0) token (kind_ahead following ahead) fault
 
-  -- None of the tokens of `prefix`, read from the state w, has a fault by the rule that `rules`
-  -- gives for `key`, and `fault` is that of the next token, the first of `rest`, which is
-  -- unexpected, or, if `rest` is empty, that of the end. The proposition `Wants` holds; it is to
-  -- state that the grammar requires a token after `prefix`.
+  -- By the rule that `rules` gives for `key`, none of the tokens of `prefix`, read from the state
+  -- w, has a fault. `fault` is that of the unexpected first token of `rest`, or, if `rest` is
+  -- empty, of the end. `Wants` holds, the caller's statement that the grammar requires a token
+  -- after `prefix`.
   pub record IsUnexpectedByRule (Wants : Type 0) (w : W) (prefix rest : List (Terminal × D)) (fault : E) : Type 0 where
     pub needs : Wants
     pub are_sound : AreFaultless (rules key) w prefix (kind_of rest)
@@ -109,10 +109,10 @@ module _ {K D W E R : Type 0} (rules : K → Rule D W E R) (key : K) where
 
   -- `fault` is the first fault of the tokens, read as the nonterminal n from the state w, by the
   -- rule that `rules` gives for `key`. Let `prefix` be their longest prefix that begins something n
-  -- derives, and `rest` the tokens after it. Either the fault is that of the first faulty token of
-  -- `prefix`; or `prefix` has no fault, `Wants` holds, which is to state that n requires a token
-  -- after `prefix`, and the fault is that of the next token, which is unexpected, or, without one,
-  -- of the end.
+  -- derives, and `rest` the later tokens. Either the fault is that of the first faulty token of
+  -- `prefix`; or `prefix` has none, `Wants` holds, the caller's claim that n requires a token after
+  -- `prefix`, and the fault is that of the unexpected first token of `rest`, or of the end if
+  -- `rest` is empty.
   pub record IsRefusedByRule (Wants : List (Terminal × D) → List (Terminal × D) → Type 0) (n : Nonterminal) (w : W) (tokens : List (Terminal × D)) (fault : E) : Type 0 where
     pub prefix : List (Terminal × D)
     pub rest : List (Terminal × D)

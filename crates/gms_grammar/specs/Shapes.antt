@@ -65,30 +65,32 @@ abbrev pub is_label : Piece → Bool
 is_label (Token Label) = true
 is_label piece = false
 
--- The quoted piece with `inner` bytes between its quotation marks, of which the first `plain` are
--- ASCII. OpenQuote if it is not `closed` on its line; otherwise LongLabel if it is a label and
--- `inner` is over 63; otherwise BadByte at the first byte between the marks that is not ASCII, if
--- `plain` is less than `inner`.
+-- A quoted piece with `inner` bytes between its quotation marks, the first `plain` of them ASCII.
+-- Or an error: at the first mark OpenQuote if it is not `closed` on its line, else LongLabel if it
+-- is a label and `inner` is over 63; else, at the first byte that is not ASCII, BadByte if `plain`
+-- is less than `inner`.
 abbrev pub quoted_of : Piece → Bool → ℕ → ℕ → Read
 quoted_of piece closed inner plain =
     if not closed then misread OpenQuote 0 else (if is_label piece && nat_lt longest_label inner then misread LongLabel 0 else (if nat_lt plain inner then misread BadByte (1 + plain) else lexeme piece (inner + 2)))
 
 -- the quoted piece with which a text begins; its first byte is the quotation mark. BadByte if the
--- text is empty
+-- text is empty. Otherwise the errors of `quoted_of`: OpenQuote if that mark does not recur on the
+-- line; else LongLabel for a label over 63 bytes; else BadByte at the first byte that is not ASCII
 abbrev pub quoted : Piece → List ℕ → Read
 quoted piece [] = misread BadByte 0
 quoted piece (mark ∷ text) =
     let inner = quoted_length mark text in
     quoted_of piece (is_closed mark text) inner (prefix_len is_ascii (take inner text))
 
--- the token of code with which a text begins: a word, a number, a quoted token of this kind, or a
--- symbol
+-- the token of code with which a text begins: a word (LongLabel if it has over 63 bytes), a number,
+-- a quoted token of this kind (or an error of `quoted`), or a symbol (BadByte if there is none)
 abbrev pub code_token : Kind → List ℕ → Read
 code_token kind text =
     if begins is_ascii_alphabetic text then bounded Word (prefix_len is_name_byte text) else (if begins_number text then lexeme (Token Number) (number_length text) else (if begins is_quote text then quoted (Token kind) text else symbol text))
 
--- the token with which a text begins where an element of a list is expected: a label, unquoted or
--- quoted, or a symbol
+-- the token with which a text begins where an element of a list is expected: an unquoted label
+-- (LongLabel if it has over 63 bytes), a quoted label (or an error of `quoted`), or a symbol
+-- (BadByte if there is none)
 abbrev pub label_token : List ℕ → Read
 label_token text =
     if begins is_ascii_alphanumeric text then bounded Label (prefix_len is_label_byte text) else (if begins is_quote text then quoted (Token Label) text else symbol text)
@@ -97,7 +99,7 @@ label_token text =
 abbrev pub remark_of : ℕ → Read
 remark_of length = if length == 0 then misread BadByte 0 else lexeme Remark length
 
--- the descriptive text with which a text begins: a quoted one ends at its mark, another before `/`,
--- `,`, `;` or the line's end
+-- the descriptive text with which a text begins: a quoted one ends at its mark (or has an error of
+-- `quoted`), an unquoted one before `/`, `,`, `;` or the line's end (BadByte if it is empty)
 abbrev pub remark : List ℕ → Read
 remark text = if begins is_quote text then quoted Remark text else remark_of (prefix_len is_text_byte text)

@@ -24,9 +24,10 @@ is_separator Dot b = is_dot b
 abbrev pub state_after_plain : ℕ → SplitState
 state_after_plain b = if is_blank b || is_dot b then First else Inner
 
--- The state after the byte b, read in the given state, if `rest` follows b. In the state First a
--- quotation mark begins a label if the mark occurs again in `rest`; the state within the label is
--- Marked.
+-- The state after the byte b, read in the given state before the bytes `rest`. In First, where a
+-- label may begin, a quotation mark that occurs again in `rest` begins a quoted label: the state is
+-- Marked until the same mark ends the label, then Inner. Otherwise the state is First after a blank
+-- or a dot, else Inner (`state_after_plain`).
 abbrev pub state_after_byte : SplitState → ℕ → List ℕ → SplitState
 state_after_byte First b rest = if is_quote b && list_any (λ c. c == b) rest then Marked b else state_after_plain b
 state_after_byte Inner b rest = state_after_plain b

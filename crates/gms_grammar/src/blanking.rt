@@ -9,19 +9,19 @@ use crate::line::{Class, class_of, inside_after, split_line};
 use crate::line_faults::first_in_line;
 use std::alloc::{AllocError, Global};
 
-/// The text from which tokens are read, a source with blank comments and control lines; and the
-/// first lexical error in the lines of the source.
+/// The text from which tokens are read: the source with blanks in place of comment lines and
+/// control lines. And the first lexical error in the lines of the source, if any.
 #[derive(Drop)]
 pub struct CodeText {
-    /// The source, in which comment lines and control lines, those with `$` in column 1, are blank.
-    /// Each byte keeps its position in the source.
+    /// The source, with blanks for the bytes of comments and control lines (`$` in column 1) except
+    /// tabs and line ends. Positions stay.
     pub text: Vec<u8>,
-    /// The first lexical error in the lines of the source: a control character other than tab, a
-    /// byte above 127 in a control line, an `$ontext` that is not ended, a line of over 32,768
-    /// bytes, or a control line whose first word is not one of the ten control words of this
-    /// language, such as `$title`. The last three errors are at the first byte of their line. Of
-    /// several errors at one byte, the first is the one with the least number (`LexError::code`).
-    /// `None` if the lines have no such error.
+    /// The first lexical error in the lines of the source, `None` without one. Errors at any byte
+    /// are a control character other than tab and line ends, and a byte above 127 in a control
+    /// line. Errors at a line's first byte are an `$ontext` that is not ended, a line of over
+    /// 32,768 bytes, and a control line whose first word is none of the ten accepted control words,
+    /// such as `$title`. Of several errors at one byte, the first has the least number
+    /// (`LexError::code`).
     pub fault: Option<ByteFault>,
 }
 
@@ -55,14 +55,15 @@ fn append_line(code: &mut Vec<u8>, class: Class, line: &[u8]) -> Result<(), Allo
     }
 }
 
-/// The text of a source from which tokens are read, and the first lexical error of its lines (GAMS
-/// User's Guide, "Language Items" and "Dollar Control Options").
+/// The text from which the tokens of a source are read: the source with comments and control lines
+/// blank; and the first lexical error of its lines, by byte and then by error number (GAMS User's
+/// Guide, "Language Items" and "Dollar Control Options").
 ///
-/// A line with `*` in column 1 is a comment. So are the lines after `$ontext`, up to and including
-/// the one that begins with `$offtext`. A line with `$` in column 1 is a control line. Lexical
+/// A line with `*` in column 1 is a comment. So are the lines after an `$ontext` line, through the
+/// next that begins with `$offtext`. Any other line with `$` in column 1 is a control line. Lexical
 /// errors of lines are a control character other than tab, a byte above 127 in a control line, an
-/// `$ontext` without `$offtext`, a line of over 32,768 bytes, and an unknown control word. Errors
-/// in tokens are no errors of lines. The only error of the call is out of memory.
+/// `$ontext` without later `$offtext`, a line of over 32,768 bytes, and an unknown control word.
+/// The call's error is out of memory.
 pub fn code_text(alloc: Global, source: &[u8]) -> Result<CodeText, AllocError>
     ensures text { IfOk result (λ code. code.text.items ≡ code_text source.now) }
     ensures as_long { IfOk result (λ code. length code.text.items ≡ length source.now) }

@@ -2,9 +2,8 @@
 ghost use Rattle.std.specs.Prelude.{◌≡◌, ◌<◌, ◌+◌, ◌^◌};
 ghost use Rattle.gms_grammar.specs.Columns.{column_after};
 
-/// The column, counted from 1, of what follows a byte at `column`. After a tab it is the next
-/// column whose number is one more than a multiple of 8; after any other byte it is the next
-/// column.
+/// The column of what follows the byte `byte` at `column`, both from 1: after a tab the next column
+/// that is one more than a multiple of 8, else `column + 1`. `column` must be below 2^32 - 8.
 pub fn column_after(column: u32, byte: u8) -> u32
     requires { column + 8 < 2 ^ 32 }
     ensures { result ≡ column_after column byte }

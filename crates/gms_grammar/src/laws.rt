@@ -7,12 +7,12 @@ ghost use Rattle.gms_grammar.specs.GamsGrammar.{Nonterminal, Program, NamedState
 ghost use Rattle.gms_grammar.specs.PlainGrammar.{plain_program, plain_named, plain_body, plain_items};
 ghost use Rattle.gms_grammar.specs.GamsLookAhead.{look_ahead};
 
-/// Each list of tokens has at most one derivation tree, and at most one first unexpected token. A
-/// token is a terminal and a datum of the type `D`; `stops` needs some datum.
+/// Laws of derivations. A token is a pair of a terminal and a datum of the type `D`.
 ///
 /// `one_tree`: a nonterminal derives a list of tokens by at most one tree. `stops` and
-/// `stops_once`: each list of tokens has exactly one longest prefix that begins something the
-/// nonterminal derives. The token after this prefix, if any, is the first unexpected one.
+/// `stops_once`: each list of tokens has exactly one longest prefix that begins a list the
+/// nonterminal derives; `stops` requires a value of `D`. The token after this prefix, if any, is
+/// the first unexpected one.
 pub fn derivation_laws<D>()
     ensures one_tree { (n : Nonterminal) (one other : DerivationTree (Terminal × D)) →
         IsTree productions (the n) one → IsTree productions (the n) other → yield one ≡ yield other → one ≡ other }
@@ -22,17 +22,17 @@ pub fn derivation_laws<D>()
         Stops productions (the n) tokens prefix rest → Stops productions (the n) tokens other following → prefix ≡ other }
 {}
 
-/// What a predictive reader finds in a list of tokens. It decides by one token, and never goes
-/// back. A token is a terminal and a datum of the type `D`; the laws that begin with `D` need some
-/// datum.
+/// A predictive reader of a nonterminal finds a tree in a list of tokens, or is stuck. It decides
+/// by the next token, and never backs up. A token is a terminal and a datum of type `D`; a law that
+/// begins with `D` requires a value of `D`.
 ///
-/// `finds`: the reader finds something in each list of tokens: a tree, or it is stuck. `tree` and
-/// `longest`: a tree that it finds is one of the nonterminal, and the tokens of the tree are the
-/// longest prefix that begins something the nonterminal derives. `unexpected` and `unfinished`: if
-/// the reader is stuck, the tokens that it has read are the longest such prefix, and the
-/// nonterminal does not derive them, so the next token is the first unexpected one. `complete`:
-/// from the tokens of a tree of the nonterminal the reader reads that tree. `gone_over`: at any
-/// time, the tokens read so far begin something that the nonterminal derives.
+/// `finds`: in each list the reader finds a tree or is stuck. `tree` and `longest`: a found tree is
+/// one of the nonterminal, and the tree's tokens are the longest prefix of the list that begins a
+/// list the nonterminal derives. `unexpected` and `unfinished`: if the reader is stuck, the tokens
+/// read are this longest prefix, and the nonterminal does not derive them, so the next token, if
+/// any, is unexpected. `complete`: from the tokens of a tree of the nonterminal the reader reads
+/// that tree. `gone_over`: the tokens read at any time are a prefix of the list and begin a list
+/// the nonterminal derives.
 pub fn reading_laws<D>()
     ensures finds { (n : Nonterminal) (tokens : List (Terminal × D)) →
         (found : Found (Terminal × D)) × Reads productions look_ahead (the n) tokens found }
@@ -50,8 +50,9 @@ pub fn reading_laws<D>()
         Takes productions look_ahead (the n) tokens prefix rest → (tokens ≡ prefix ++ rest) × Begins productions (the n) prefix }
 {}
 
-/// Some productions are written so that a reader can decide by one token, and each of them has
-/// another form that is easier to read. Both forms derive the same tokens.
+/// Some productions let one token decide which alternative to take. The `plain` form of each is
+/// easier to understand; both forms derive the same lists of tokens. A token is a terminal and a
+/// datum of the type `D`.
 pub fn plain_laws<D>()
     ensures program { (tokens : List (Terminal × D)) →
         Derives productions (the Program) tokens ↔ Derives productions plain_program tokens }

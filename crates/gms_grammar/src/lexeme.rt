@@ -15,19 +15,22 @@ pub enum Piece {
     Token(Kind),
 }
 
-/// The piece with which a text begins: its kind, and how many bytes it has.
+/// The piece with which a text begins (a token, blanks, line ends or a descriptive text): its kind,
+/// and how many bytes it has.
 #[derive(Clone, Copy)]
 pub struct Lexeme {
-    /// The kind of the piece with which the text begins.
+    /// The kind of the text's first piece, such as a token.
     pub piece: Piece,
-    /// How many bytes the piece has, from the start of the text on.
+    /// The length in bytes of the token, the blanks, the line ends or the descriptive text with
+    /// which the text begins.
     pub length: usize,
 }
 
-/// Why no piece can be read at the start of a text, and where the error is.
+/// Why neither a token nor blanks, line ends or a descriptive text can be read at the start of a
+/// text, and where the error is.
 #[derive(Clone, Copy)]
 pub struct Misread {
-    /// The lexical error because of which no piece can be read.
+    /// The lexical error, by its cause.
     pub error: LexError,
     /// How many bytes of the text precede the error.
     pub ahead: usize,

@@ -177,13 +177,14 @@ fn quoted(piece: Piece, text: &[u8]) -> Result<Lexeme, Misread>
     quoted_of(piece, is_closed(*mark, rest), inner, plain)
 }
 
-/// The token of code with which a text begins: a word, a number, a quoted token, or a symbol, that
-/// is, an operator or a delimiter. `kind` is the kind that a quoted token gets: a label, or a text.
+/// The token with which a text begins where no list element is expected: a word, a number, a quoted
+/// token, or a symbol (an operator or a delimiter). `kind` is the kind of a quoted token: a label,
+/// or a text.
 ///
-/// The errors are `BadByte` at a character that begins no token, and at a byte above 127 in a
-/// quoted token; `OpenQuote` at a quotation mark that does not occur again on its line; and
-/// `LongLabel` at a word of over 63 bytes, and at a quoted label of over 63 bytes. If a quoted
-/// token has several, `OpenQuote` comes first, then `LongLabel`, then the first `BadByte`.
+/// A quoted token has the first of these errors: `OpenQuote` at its first mark if this does not
+/// recur on the line; `LongLabel` at this mark if a label has over 63 bytes between its marks;
+/// `BadByte` at its first byte above 127. Other errors are `LongLabel` at a word of over 63 bytes,
+/// and `BadByte` where no token begins.
 pub fn code_token(kind: Kind, text: &[u8]) -> Result<Lexeme, Misread>
     ensures { result ≡ code_token kind text.now }
 {
@@ -203,12 +204,12 @@ pub fn code_token(kind: Kind, text: &[u8]) -> Result<Lexeme, Misread>
 }
 
 /// The token with which a text begins where an element of a list is expected: a label, unquoted or
-/// quoted, or a symbol, that is, an operator or a delimiter.
+/// quoted, or a symbol (an operator or a delimiter).
 ///
-/// The errors are `BadByte` at a character that begins no token, and at a byte above 127 in a
-/// quoted label; `OpenQuote` at a quotation mark that does not occur again on its line; and
-/// `LongLabel` at a label of over 63 bytes. If a quoted label has several, `OpenQuote` comes first,
-/// then `LongLabel`, then the first `BadByte`.
+/// A quoted label has the first of these errors: `OpenQuote` at its first mark if this does not
+/// recur on the line; `LongLabel` at this mark if over 63 bytes are between the marks; `BadByte` at
+/// its first byte above 127. Other errors are `LongLabel` at an unquoted label of over 63 bytes,
+/// and `BadByte` where no token begins.
 pub fn label_token(text: &[u8]) -> Result<Lexeme, Misread>
     ensures { result ≡ label_token text.now }
 {
@@ -221,12 +222,11 @@ pub fn label_token(text: &[u8]) -> Result<Lexeme, Misread>
     read_symbol(text)
 }
 
-/// The descriptive text with which a text begins. A quoted one ends with its second quotation mark;
-/// an unquoted one ends before the first `/`, `,` or `;`, or at the end of the line.
+/// The descriptive text with which `text` begins. A quoted one ends with the next mark like its
+/// first; an unquoted one ends before the first `/`, `,` or `;`, or at the end of the line.
 ///
-/// The errors are `OpenQuote` at a quotation mark that does not occur again on its line, and
-/// `BadByte` at the first byte above 127 in a quoted text that is closed, and where an unquoted
-/// text would be empty.
+/// A quoted one has the error `OpenQuote` at its first mark if this does not recur on the line,
+/// else `BadByte` at its first byte above 127. An unquoted one has only `BadByte`, if it is empty.
 pub fn remark(text: &[u8]) -> Result<Lexeme, Misread>
     ensures { result ≡ remark text.now }
 {

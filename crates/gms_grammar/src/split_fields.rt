@@ -79,9 +79,9 @@ impl SplitState {
     }
 }
 
-/// How many bytes of a text come before the first occurrence of the separator; all bytes, if the
-/// separator does not occur. An occurrence in a label in quotation marks does not count. Such a
-/// label begins the text, or follows a blank or a dot.
+/// How many bytes of a text come before the first separator outside labels in quotation marks; all,
+/// if there is none. Such a label begins the text, or follows a blank or a dot, and ends with the
+/// next mark like its first, which must exist.
 pub fn field_length(separator: Separator, text: &[u8]) -> usize
     ensures value { result ≡ field_bytes (is_separator separator) text.now }
     ensures within { result ≤ length text.now }

@@ -149,7 +149,7 @@ with_write_fault m = record m { write_faults = one_more m.write_faults }
 -- the host after an `open_in` of this name with this answer: on success the bytes of the file (none
 -- if no file has the name) are the input, which is open, and the name is appended to `asked`; else
 -- no input is open. The number of the next call rises by one, and after a `Fault` the count of
--- faults of reading too, but neither above 64 bits. `Memory`, out of memory, is not counted.
+-- faults of reading too, each to at most 2^64 - 1. `Memory`, out of memory, is no such fault.
 abbrev pub after_open_in : MemoryState → List ℕ → Result (Unit {0}) Failed → MemoryState
 after_open_in m name (Ok _) = record (with_call_numbered m) { input = unwrap_or (finite.get m.files name) []; asked = m.asked ++ name ∷ []; reading = true }
 after_open_in m name (Err Fault) = record (with_read_fault (with_call_numbered m)) { reading = false }
@@ -157,7 +157,7 @@ after_open_in m name (Err Memory) = record (with_call_numbered m) { reading = fa
 
 -- the host after a `read` with this answer: on success the `count` bytes that were read are removed
 -- from the input. The number of the next call rises by one, and after a `Fault` the count of faults
--- of reading too, but neither above 64 bits. `Memory`, out of memory, is not counted.
+-- of reading too, each to at most 2^64 - 1. `Memory`, out of memory, is no such fault.
 abbrev pub after_read : MemoryState → Result ℕ Failed → MemoryState
 after_read m (Ok count) = record (with_call_numbered m) { input = drop count m.input }
 after_read m (Err Fault) = with_read_fault (with_call_numbered m)
@@ -169,8 +169,8 @@ with_empty_output m = record m { output = []; writing = false }
 
 -- the host after an `open_out` of this name with this answer: the output is empty; on success it is
 -- open and has the name, which is appended to `asked`, else no output is open. The number of the
--- next call rises by one, and after a `Fault` the count of faults of writing too, but neither above
--- 64 bits. `Memory`, out of memory, is not counted.
+-- next call rises by one, and after a `Fault` the count of faults of writing too, each to at
+-- most 2^64 - 1. `Memory`, out of memory, is no such fault.
 abbrev pub after_open_out : MemoryState → List ℕ → Result (Unit {0}) Failed → MemoryState
 after_open_out m name (Ok _) = record (with_call_numbered m) { named = name; output = []; asked = m.asked ++ name ∷ []; writing = true }
 after_open_out m name (Err Fault) = with_empty_output (with_write_fault (with_call_numbered m))
@@ -178,8 +178,8 @@ after_open_out m name (Err Memory) = with_empty_output (with_call_numbered m)
 
 -- the host after a `write` of these bytes with this answer: on success the first `count` of them
 -- are appended to the output. The number of the next call rises by one, and after a `Fault` the
--- count of faults of writing too, but neither above 64 bits. `Memory`, out of memory, is not
--- counted.
+-- count of faults of writing too, each to at most 2^64 - 1. `Memory`, out of memory, is no such
+-- fault.
 abbrev pub after_write : MemoryState → List ℕ → Result ℕ Failed → MemoryState
 after_write m bytes (Ok count) = record (with_call_numbered m) { output = m.output ++ take count bytes }
 after_write m bytes (Err Fault) = with_write_fault (with_call_numbered m)
@@ -187,8 +187,8 @@ after_write m bytes (Err Memory) = with_call_numbered m
 
 -- the host after a `close_out` with this answer: no output is open; on success the one that was
 -- open is appended to `kept` with its name. The number of the next call rises by one, and after a
--- `Fault` the count of faults of writing too, but neither above 64 bits. `Memory`, out of memory,
--- is not counted.
+-- `Fault` the count of faults of writing too, each to at most 2^64 - 1. `Memory`, out of memory,
+-- is no such fault.
 abbrev pub after_close_out : MemoryState → Result (Unit {0}) Failed → MemoryState
 after_close_out m (Ok _) = record (with_call_numbered m) { kept = m.kept ++ (m.named, m.output) ∷ []; writing = false }
 after_close_out m (Err Fault) = record (with_write_fault (with_call_numbered m)) { writing = false }
@@ -196,8 +196,8 @@ after_close_out m (Err Memory) = record (with_call_numbered m) { writing = false
 
 -- the host after a `say` of these bytes with this answer: on success the first `count` of them are
 -- appended to standard output. The number of the next call rises by one, and after a `Fault` the
--- count of faults of writing too, but neither above 64 bits. `Memory`, out of memory, is not
--- counted.
+-- count of faults of writing too, each to at most 2^64 - 1. `Memory`, out of memory, is no such
+-- fault.
 abbrev pub after_say : MemoryState → List ℕ → Result ℕ Failed → MemoryState
 after_say m bytes (Ok count) = record (with_call_numbered m) { said = m.said ++ take count bytes }
 after_say m bytes (Err Fault) = with_write_fault (with_call_numbered m)

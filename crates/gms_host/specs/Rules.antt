@@ -29,8 +29,9 @@ with_asked o names = record o { asked = told_with o.asked names }
 abbrev pub with_emptied : Outside → Bool → Outside
 with_emptied o open_now = record o { output = option_map (λ _. []) o.output; writing = open_now }
 
--- the outside state after an empty output was opened with this name: `named` becomes the name, or
--- stays None if the host does not expose the names of outputs, and the name is appended to `asked`
+-- the outside state after an empty output was opened with this name: `named` becomes the name, and
+-- the name is appended to `asked`, the names with which files were opened. A field that the host
+-- does not expose stays None
 abbrev pub with_opened : Outside → List ℕ → Outside
 with_opened o name =
     record (with_emptied o true) { named = option_map (λ _. name) o.named; asked = told_with o.asked (name ∷ []) }
@@ -54,8 +55,9 @@ pub record TellsWhole (o : Outside) : Type 0 where
 abbrev pub IsThere : Outside → List ℕ → Type 0
 IsThere o name = IfSome o.files (λ files. IsSome (map.get files name))
 
--- `input` is what an `open_in` of this name gives: it is exposed exactly if the input was before,
--- and if the files are exposed, it has the bytes of the file of this name, which exists
+-- `input` is what an `open_in` of this name gives in the state o: it is exposed (Some) exactly if o
+-- exposes its input; and if o exposes its files, `input` has the bytes of the file of this name,
+-- which exists
 abbrev pub IsInput : Outside → List ℕ → Option (List ℕ) → Type 0
 IsInput o name input =
     (is_some input ≡ is_some o.input) × IfSome o.files (λ files. IsSome (map.get files name) × (input ≡ map.get files name))
@@ -76,7 +78,8 @@ pub record GivesFirst (bytes : List ℕ) (count : ℕ) (buffer : List ℕ) : Typ
   pub end : (count ≡ 0) ↔ (bytes ≡ [])
 
 -- The effect of a `read`. On success the first `count` bytes of the input are put at the beginning
--- of the buffer and removed from the input. On failure the outside state is unchanged.
+-- of the buffer and removed from the input; if the host does not expose the input, nothing is
+-- stated of the buffer. On failure the outside state is unchanged.
 abbrev pub ReadsBytes : Result ℕ Failed → Outside → Outside → List ℕ → Type 0
 ReadsBytes (Ok count) old new buffer =
     IfSome old.input (λ bytes. GivesFirst bytes count buffer) × (new ≡ record old { input = option_map (λ bytes. drop count bytes) old.input })
@@ -110,10 +113,10 @@ Says (Err _) old new bytes = new ≡ old
 
 -- ---- the counts of faults
 
--- How a call changes the count of its faults from `old` to `new`: the count never falls, and it
--- rises if the answer is a fault, or may stay at the greatest number of 64 bits. If `precise`
--- holds, the count stays when the call succeeds. If `sure` holds, the answer is no fault, and the
--- count stays.
+-- How a call with this result changes a count of faults from `old` to `new`. The count never falls.
+-- If the result is a fault, it rises, or may stay at the greatest number of 64 bits. If `precise`
+-- holds and the call succeeds, it stays. If `sure` holds, the result is no fault, and the count
+-- stays.
 pub record IsCounted {A : Type 0} (result : Result A Failed) (sure precise : Type 0) (old new : ℕ) : Type 0 where
   pub no_fall : old ≤ new
   pub fault : IsErrOf result Fault → Rose old new

@@ -35,21 +35,21 @@ impl<T: Drop> From<AllocFailed<T>> for Failed {
     }
 }
 
-/// The outside of the program: named files, of which one can be read and one written at a time, and
-/// standard output.
+/// What is outside of the running program: named files, of which one can be read and one written at
+/// a time, and standard output.
 ///
 /// What a host exposes is its `Meaning`: its outside state, and two counts of faults, one of
 /// reading and one of writing. It may hide fields of the outside state, such as the files; which
 /// ones it hides never changes. Each call has one clause on its effect on the outside state, by its
-/// result, and two on the counts. A call that reads changes the count of reading alone, and a call
-/// that writes that of writing alone. A call returns a fault only if the count that it may change
+/// result, and two on the counts. `open_in` and `read` can change only the count of reading, the
+/// other calls only that of writing. A call returns a fault only if the count that it can change
 /// rose in the call, or had the greatest value, 2^64 - 1. A call that runs out of memory changes no
 /// count.
 ///
-/// A host may promise, for good, that it is reliable: then no call fails by itself. If it exposes
-/// its files, the only fault is an `open_in` of a name that no file has; otherwise there is none.
-/// No other call counts a fault. Memory may run out all the same. A host may also promise that it
-/// is precise: a fault is counted only in a call that returns a fault.
+/// A host may promise, for good, that it is reliable: then no call returns or counts a fault,
+/// except an `open_in` of a name that no file has, and this only if the host exposes its files.
+/// Memory may run out all the same. A host may also promise that it is precise: a fault is counted
+/// only in a call that returns a fault.
 pub trait Host {
     /// What the host exposes to its caller.
     ghost meaning: { Self → Meaning };

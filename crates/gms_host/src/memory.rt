@@ -10,9 +10,10 @@ use std::marker::Model;
 /// A host over files in memory, which exposes all of its state.
 ///
 /// It numbers its calls from 0. A call returns a fault exactly if its number is in the list `fail`
-/// with which the host is made, or if it is an `open_in` of a name that no file has. So the host is
-/// reliable exactly if `fail` is empty. The call number and both counts of faults saturate at the
-/// greatest number of their type.
+/// with which the host is made, or if it is an `open_in` of a name that no file has. If `fail` is
+/// empty, and only then, the host promises that it is reliable: that it has no other fault than
+/// such an `open_in`. The number of the next call and the counts of faults of reading and of
+/// writing stay at the greatest `u64` once they reach it.
 #[derive(Debug, Drop)]
 pub struct MemHost {
     alloc: Global,
@@ -62,8 +63,8 @@ impl Model for MemHost {
 }
 
 impl MemHost {
-    /// A host over these files, each with its name and its bytes. If several files have one name,
-    /// the first of them counts. Nothing is open. `fail` has the numbers, from 0, of the calls that
+    /// A host over these files, each a name and its bytes; of files with one name it has only the
+    /// first. No input or output is open. `fail` has the numbers, from 0, of the host's calls that
     /// are to fail.
     pub fn new(alloc: Global, files: Vec<(String, Vec<u8>)>, fail: Vec<u64>) -> MemHost
         ensures { result ≡ at_start (files_of files.items) fail.items }

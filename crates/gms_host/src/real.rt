@@ -16,10 +16,11 @@ const TRIES: u32 = 64;
 
 /// A host over real files and standard output.
 ///
-/// It exposes no files, no names and no bytes, and promises neither to be reliable nor to be
-/// precise. Each error of std is counted as a fault, and so is a write for which std returns the
-/// count 0; but a call that runs out of memory counts nothing. A call repeats a read or a write
-/// that was interrupted, and makes at most 64 tries.
+/// Contracts state four fields of it: whether an input is open, whether an output is open, a count
+/// of faults of reading and one of writing; no files, names or bytes. Any call may fail. Each error
+/// that std returns is counted as a fault, and so is a write for which std returns the count 0; but
+/// a call that runs out of memory counts nothing. A call repeats an interrupted read or write, and
+/// returns a fault if the 64th try is interrupted. So a call that succeeds may have counted faults.
 #[derive(Drop)]
 pub struct RealHost<R: Files> {
     runtime: R,
@@ -44,8 +45,8 @@ impl<R: Files> Model for RealHost<R> {
 }
 
 impl<R: Files> RealHost<R> {
-    /// A host over the files and the standard output of this runtime. Nothing is open, and no fault
-    /// is counted.
+    /// A host over the files and the standard output of this runtime. Nothing is open, and the
+    /// counts of faults are 0.
     pub fn new(rt: R) -> RealHost<R>
         ensures { result ≡ untouched }
     {

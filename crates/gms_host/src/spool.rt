@@ -10,10 +10,11 @@ use std::marker::Model;
 /// How many bytes are pending at most.
 const ROOM: usize = 4096;
 
-/// A buffer of at most 4,096 pending bytes, those that are still to be written to a host. Its
-/// memory is allocated when the spool is made.
+/// A buffer of at most 4,096 pending bytes: those still to be written to a host. `new` allocates
+/// its memory.
 ///
-/// The output of a host, followed by the pending bytes, is the text that was put so far.
+/// Until a write fails, the bytes written to the output, then the pending ones, are the text that
+/// was put so far.
 #[derive(Debug)]
 pub struct Spool {
     pending: Vec<u8>,
@@ -61,14 +62,14 @@ impl Spool {
         })
     }
 
-    /// Appends a text to the pending bytes, and writes these to the host, of which an output must
-    /// be open, whenever the buffer is full and more of the text follows.
+    /// Appends a text to the pending bytes. Whenever 4,096 bytes are pending and more of the text
+    /// follows, writes them to the output of the host, which must be open.
     ///
-    /// On success, the output followed by the pending bytes is what these two were before, followed
-    /// by the text. The error is that of a `write` of the host; it is `Fault` only if a fault of
-    /// writing was counted in this call. After an error nothing is pending, and of the former
-    /// pending bytes and the text together only a prefix is appended to the output. Only the output
-    /// of the host and its count of faults of writing change.
+    /// On success, the output followed by the pending bytes is extended by the text. After an error
+    /// nothing is pending; of the formerly pending bytes, then the text, only a prefix is appended
+    /// to the output. The error is that of a `write`; if it is `Fault`, the count of faults of
+    /// writing rose in this call or was 2^64 - 1. Only the host's output and its count of faults of
+    /// writing change.
     pub fn put<H: Host>(&mut self, host: &mut H, text: &[u8]) -> Result<(), Failed>
         requires { (H.meaning host.old).outside.writing ≡ true }
         ensures outside { PutsThrough result (H.meaning host.old).outside (H.meaning host.new).outside (self.old ++ text.now) self.new }
@@ -111,12 +112,12 @@ impl Spool {
         };
     }
 
-    /// Writes all pending bytes to the host, of which an output must be open. Afterwards nothing is
-    /// pending, even after an error.
+    /// Writes all pending bytes to the output of the host, which must be open. Afterwards nothing
+    /// is pending, even after an error.
     ///
-    /// On success the bytes are appended to the output, and after an error only a prefix of them.
-    /// The error is that of a `write` of the host; it is `Fault` only if a fault of writing was
-    /// counted in this call. Only the output of the host and its count of faults of writing change.
+    /// On success the bytes are appended to the output, after an error only a prefix of them. The
+    /// error is that of a `write`; if it is `Fault`, the count of faults of writing rose in this
+    /// call or was 2^64 - 1. Only the host's output and its count of faults of writing change.
     pub fn flush<H: Host>(&mut self, host: &mut H) -> Result<(), Failed>
         requires { (H.meaning host.old).outside.writing ≡ true }
         ensures outside { WritesAll result (H.meaning host.old).outside (H.meaning host.new).outside self.old }

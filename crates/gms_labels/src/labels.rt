@@ -15,15 +15,15 @@ pub const MOST_LABELS: usize = 65_536;
 /// The greatest number of bytes of a label.
 pub const MOST_BYTES: usize = 63;
 
-/// The greatest number of labels for which a search compares the text with each label, since a hash
-/// takes longer.
+/// A search compares the text with each label if there are at most this many: a hash takes longer.
 const FEW: u32 = 16;
 
 /// A table of labels: texts of which no two are the same when letter case is ignored. The number of
 /// a label is its position, from 0, in the order in which the labels were entered.
 ///
 /// A label keeps the case in which it was first written. Only the case of ASCII letters is ignored.
-/// Among more than 16 labels a search looks up a hash, which depends on the table's seed.
+/// Among more than 16 labels a search looks up the hash of the table's seed, if it has one, and the
+/// text.
 pub struct Labels {
     // from each text in lower case to the text as first written
     texts: IndexMap<Folded, String, Seeded>,
@@ -57,9 +57,9 @@ impl Labels {
         }
     }
 
-    /// An empty table that hashes labels with this seed. If the labels are written in a source,
-    /// pass the `source_seed` of the source, so that an author cannot easily choose labels that all
-    /// have the same hash.
+    /// An empty table that hashes labels with this seed. If the labels are those of a source, pass
+    /// its `source_seed`, so that its author cannot easily choose labels that all have the same
+    /// hash.
     pub fn with_seed(alloc: Global, seed: u64) -> Labels
         ensures { result ≡ [] }
     {
@@ -84,24 +84,24 @@ impl Labels {
         self.texts.is_empty()
     }
 
-    /// The position of a text in the table, from 0, letter case ignored. A text that the table does
-    /// not have is new: it is appended. The text has at most 63 bytes.
+    /// The position of `text`, of at most 63 bytes, in the table, from 0, letter case ignored. A
+    /// text that is not in the table is new: it is appended.
     ///
-    /// The error is `Full` exactly if the text is new and the table has 65,536 labels. After
-    /// `Full`, and after out of memory, the table is unchanged.
+    /// The error is `Full` exactly if the text is new and the table has 65,536 labels; any other
+    /// error is out of memory. After an error the table is unchanged.
     pub fn enter(&mut self, alloc: Global, text: &str) -> Result<u32, LabelFault>
         requires { length text.now ≤ most_label_bytes }
-        // The text has the place that is answered, and a new text has the last place.
+        // The result is the text's position; that of a new text is the last.
         ensures ok { OnOk result (self.new ≡ entered self.old text.now) }
         ensures place { IfOk result (λ n. place_of self.new text.now ≡ Some n) }
 
-        // A known text needs no space.
+        // No error unless text is new.
         ensures known { IsSome (place_of self.old text.now) → IsOk result }
         ensures full { IsErrOf result LabelFault.Full ↔ IsFullFor self.old text.now }
         ensures err { OnErr result (self.new ≡ self.old) }
 
-        // Places stay, and so does the invariant of a table: at most 65,536 labels of at most 63
-        // bytes, of which no two are the same when letter case is ignored.
+        // Positions stay, and so does the invariant: at most 65,536 labels of at most 63 bytes, no
+        // two of which are the same when letter case is ignored.
         ensures keeps { (other : List ℕ) (n : ℕ) → place_of self.old other ≡ Some n → place_of self.new other ≡ Some n }
         ensures labels { AreLabels self.new }
     {
@@ -131,10 +131,10 @@ impl Labels {
         Ok(())
     }
 
-    /// The position of a text in the table, from 0, letter case ignored; `None` exactly if the
-    /// table does not have the text. The text has at most 63 bytes. `labels` is the invariant of a
-    /// table: at most 65,536 labels of at most 63 bytes, of which no two are the same when letter
-    /// case is ignored.
+    /// The position of `text` in the table, from 0, letter case ignored; `None` exactly if the
+    /// table does not have it. The text must have at most 63 bytes. `labels` is the invariant of a
+    /// table: at most 65,536 labels of at most 63 bytes, no two the same when letter case is
+    /// ignored.
     pub fn find(&self, text: &str) -> Option<u32>
         requires { length text.now ≤ most_label_bytes }
         ensures place { result ≡ place_of self.now text.now }

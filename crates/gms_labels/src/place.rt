@@ -4,13 +4,13 @@ use std::fmt;
 
 /// A place in a source: its line and its column, each counted from 1.
 ///
-/// A column counts bytes, but a tab moves to the next column that is one more than a multiple of 8.
+/// A column counts bytes; after a tab comes the next column that is one more than a multiple of 8.
 /// In `set i /a/;` the name `i` is at line 1 and column 5, which is shown as `1:5`.
 #[derive(Clone, Copy, Debug, PartialEq, Eq, PartialOrd, Ord, Hash)]
 pub struct Place {
     /// The number of the line in the source, from 1.
     pub line: u32,
-    /// The column in the line, from 1. It counts bytes, but a tab moves to the next column that is
+    /// The column in the line, from 1. It counts bytes; after a tab comes the next column that is
     /// one more than a multiple of 8.
     pub column: u32,
 }

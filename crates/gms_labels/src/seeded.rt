@@ -4,7 +4,7 @@ ghost use Rattle.std.specs.Hash.DefaultHasher as sip;
 
 use std::hash::{BuildHasher, DefaultHasher, Hasher};
 
-/// A maker of hashers of keys. With a seed, the hash of a key is SipHash-1-3 of the eight bytes of
+/// Makes the hashers of keys. With a seed, the hash of a key is SipHash-1-3 of the eight bytes of
 /// the seed followed by the bytes of the key. Without a seed, it is SipHash-1-3 of the bytes of the
 /// key alone.
 #[derive(Clone, Copy)]

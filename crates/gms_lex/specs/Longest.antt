@@ -39,8 +39,8 @@ IsElementPiece (Token Label) text = IsLabel text ⊎ IsQuoted text
 IsElementPiece (Token (Symbol symbol)) text = IsSymbol symbol text
 IsElementPiece piece text = ⊥
 
--- the text is this piece: a symbol that begins with a byte that passes the test, or a descriptive
--- text that begins with another
+-- the text is this piece: a symbol whose first byte passes the test, or a descriptive text whose
+-- first byte does not
 abbrev pub IsMarkOrText : (ℕ → Bool) → Piece → List ℕ → Type 0
 IsMarkOrText marks (Token (Symbol symbol)) text = (begins marks text ≡ true) × IsSymbol symbol text
 IsMarkOrText marks Remark text = (begins marks text ≡ false) × IsText text
@@ -53,20 +53,20 @@ abbrev pub IsValuePiece : Stage → Piece → List ℕ → List ℕ → Type 0
 IsValuePiece After (Token Number) text following = IsNumberSpelling text following × (begins_dot text ≡ false)
 IsValuePiece stage piece text following = IsCode Label piece text following
 
--- The text is this piece after an element outside parentheses. In a parameter's list, where the
--- element's value may follow, it is as in `IsValuePiece` at this stage. In any other list it is a
--- symbol that begins with `/`, `,`, `;`, `)`, `*` or `.`, or a descriptive text that begins with
--- none of these.
+-- The text, which `following` follows, is this piece after an element outside parentheses. In a
+-- parameter's list, where a value may follow the element, it is a token of code (`IsValuePiece`).
+-- In any other list it is a symbol that begins with `/`, `,`, `;`, `)`, `*` or `.`, or a
+-- descriptive text that begins with none of these.
 abbrev pub IsAfterElementPiece : Shape → Stage → Piece → List ℕ → List ℕ → Type 0
 IsAfterElementPiece Parameter stage piece text following = IsValuePiece stage piece text following
 IsAfterElementPiece Set stage piece text following = IsMarkOrText is_element_mark piece text
 IsAfterElementPiece Scalar stage piece text following = IsMarkOrText is_element_mark piece text
 IsAfterElementPiece Model stage piece text following = IsMarkOrText is_element_mark piece text
 
--- The text is a piece in a list of this shape, inside `depth` parentheses; `following` follows it.
--- After an element outside parentheses (directly: `After`; after a blank: `Spaced`) it is what may
--- follow an element there. Else, with an element or a label expected (`Fresh`, `Expected`) or
--- inside parentheses, it is a label or a symbol.
+-- The text is a piece in a list of this shape, inside `depth` parentheses; `following` follows.
+-- After an element outside parentheses (`After`; `Spaced` after a blank) the text is what may
+-- follow an element of the list. Inside parentheses or where an element or a label is expected
+-- (`Fresh`, `Expected`), it is a label or a symbol.
 abbrev pub IsInList : Shape → ℕ → Stage → Piece → List ℕ → List ℕ → Type 0
 IsInList shape depth Fresh piece text following = IsElementPiece piece text
 IsInList shape depth Expected piece text following = IsElementPiece piece text
@@ -75,10 +75,10 @@ IsInList shape zero Spaced piece text following = IsAfterElementPiece shape Spac
 IsInList shape (suc depth) After piece text following = IsElementPiece piece text
 IsInList shape (suc depth) Spaced piece text following = IsElementPiece piece text
 
--- The first n bytes of the text are this piece, among the lines of a table. If no statement begins
--- here, the piece may be a line of the table: this line, which is not empty, up to the `;` that
--- ends the table, or all of it. If a statement, that `;` or a line end is here, the piece may be a
--- token of code; a quoted token is a text.
+-- The first n bytes of the text are this piece, among the lines of a table. Let m be the number of
+-- bytes before the `;` that ends the table or, without one on the line, before the line's end. If m
+-- is above 0 and no statement begins here, the piece is a line of the table, and n is m. Else it is
+-- a token of code; a quoted token is a text.
 abbrev pub IsOfTable : List ℕ → Piece → ℕ → Type 0
 IsOfTable text (Token TableLine) n = (begins_statement text ≡ false) × (0 < n) × (n ≡ table_bytes (content text))
 IsOfTable text piece n =
@@ -88,9 +88,9 @@ IsOfTable text piece n =
 -- the name of an item or a table (`Named`, `TableNamed`) this is `(`, `/`, `,`, `;` or a
 -- descriptive text; after its domain (`Bare`, `TableBare`) the same without `(`. In a list it
 -- depends on whether an element is expected or has been read (`Element`). Where a value is expected
--- or has begun (`Value`, `Tail`) it is a token of code, and a quoted token is a label. Where a line
--- of a table may come (`TableLines`), `IsOfTable` holds. In each other mode it is a token of code,
--- and a quoted token is a text.
+-- or has begun (`Value`, `Tail`) it is a token of code, a quoted one a label. Otherwise it is a
+-- token of code, a quoted one a text; among the lines of a table (`TableLines`) it may also be a
+-- line.
 abbrev pub IsAllowedPiece : Mode → List ℕ → Piece → ℕ → Type 0
 IsAllowedPiece (Named shape) text piece n = IsMarkOrText (λ b. b == 40 || is_item_mark b) piece (take n text)
 IsAllowedPiece TableNamed text piece n = IsMarkOrText (λ b. b == 40 || is_item_mark b) piece (take n text)
@@ -122,8 +122,8 @@ IsUnlawful p text misread =
     ((misread.error ≡ LongLabel) × (longest_label < length (unquoted (take p.length text))))
     ⊎ ((misread.error ≡ BadByte) × (misread.ahead < p.length) × (127 < get_or text misread.ahead 0))
 
--- there is an error instead of a piece: the mode allows no piece there, or the longest that it
--- allows is an unlawful token
+-- there is an error instead of a piece: the mode allows no piece there, and `misread` is any error;
+-- or the longest piece that the mode allows is no token because of the error `misread`
 abbrev pub IsRefusedPiece : Mode → List ℕ → Misread → Type 0
 IsRefusedPiece mode text misread =
     ((other : Piece) (n : ℕ) → n ≤ length text → IsAllowedPiece mode text other n → ⊥)

@@ -17,8 +17,9 @@ use Rattle.gms_lex.specs.declared.mode.Mode.{Mode}
 use Rattle.gms_lex.specs.declared.mode.Mode.TheVariants.{Code, Item, Named, Domain, Bare, Rest, Element, Value, Tail, TableName, TableNamed, TableDomain, TableBare, TableTexted, TableLines}
 use Rattle.gms_lex.specs.Keywords.{keyword_of}
 
--- the mode where a list begins, and where it continues after a comma: in a list of a set or a
--- parameter a new element is expected (`Fresh`), inside 0 parentheses; in others a value
+-- the mode where a list begins, and where it continues after a comma. In a list of a set or a
+-- parameter a new element is expected (`Fresh`), inside 0 parentheses; in a list of a scalar a
+-- value, and in a list of a model a name (`Value` for both)
 abbrev pub list_start : Shape → Mode
 list_start Set = Element Set 0 Fresh
 list_start Parameter = Element Parameter 0 Fresh
@@ -40,9 +41,9 @@ after_element shape depth = if depth == 0 then Tail shape else Element shape dep
 
 -- The mode after a token for which neither `after_token` nor `after_word` has its own rule: a
 -- label, a number, a quoted text, the end, or a word that is no keyword and no name there. After an
--- expected element the stage is `After`; after a token that follows an element the mode is that of
--- `after_element`; after an expected value it is `Tail`. Where a table's name is expected, after
--- its text, and among its lines, code begins. Other modes stay.
+-- expected element the stage is `After`; after a token that follows an element `after_element`
+-- gives the mode; after an expected value it is `Tail`. Where a table's name is expected, after its
+-- text, and among its lines it is `Code`. Other modes stay.
 abbrev pub after_plain : Mode → Mode
 after_plain (Element shape depth Fresh) = Element shape depth After
 after_plain (Element shape depth Expected) = Element shape depth After
@@ -56,8 +57,9 @@ after_plain current = current
 
 -- the mode after a word. A keyword begins a statement in code, where an item or the name of a table
 -- is expected, after the text or the list of an item, and after the text or among the lines of a
--- table. Any other word where a name is expected is that name, and after the text or among the
--- lines of a table it is code. In all other modes a word is treated as in `after_plain`.
+-- table. Any other word where a name is expected is that name; after the text or among the lines of
+-- a table it is code; in code, and after the text or the list of an item, it leaves the mode
+-- unchanged. In other modes any word is like a label (`after_plain`).
 abbrev pub after_word : Mode → List ℕ → Mode
 after_word Code word = begun_by (keyword_of word) Code
 after_word (Item shape) word = begun_by (keyword_of word) (Named shape)
@@ -90,9 +92,9 @@ after_expected_symbol shape depth Slash = Rest shape
 after_expected_symbol shape depth symbol = Element shape depth Expected
 
 -- The mode after a symbol that follows an element, inside `depth` parentheses: `)` closes one, `,`
--- is as in `after_comma`, and `/` ends the list. After a dot or `..`, which joins the next label,
--- and a star or `**`, which makes a range, a label is expected. After any other symbol the mode is
--- that of `after_element`.
+-- begins the next element, in parentheses a label, and `/` ends the list. After a dot or `..`, to
+-- join labels, and a star or `**`, for a range, a label is expected. Outside parentheses any other
+-- begins a text or value.
 abbrev pub after_element_symbol : Shape → ℕ → Sym → Mode
 after_element_symbol shape depth RightParen = Element shape (depth - 1) After
 after_element_symbol shape depth Comma = after_comma shape depth

@@ -25,7 +25,7 @@ abbrev pub element_line_ends : ℕ → LineEnds
 element_line_ends depth = if depth == 0 then EndElement else Skipped
 
 -- what a line end means in a list, inside `depth` parentheses and at this stage of an element:
--- nothing if no element has begun (`Fresh`), otherwise as in `element_line_ends`
+-- nothing if no element has begun (`Fresh`) or inside parentheses, otherwise the end of the element
 abbrev pub list_line_ends : ℕ → Stage → LineEnds
 list_line_ends depth Fresh = Skipped
 list_line_ends depth Expected = element_line_ends depth
@@ -43,10 +43,10 @@ line_ends (Element shape depth stage) = list_line_ends depth stage
 line_ends (Tail shape) = EndElement
 line_ends current = Skipped
 
--- Whether a line end of this meaning ends nothing before the byte. One that may end an item ends
--- nothing before `/`, `,` and `;`, which themselves begin the item's list or end the item. One that
--- may end an element ends nothing before `/` and `,`, which themselves end the element. For one
--- that means nothing the answer is true.
+-- Whether a line end of this meaning ends nothing if the byte follows it. A line end that may end
+-- an item ends nothing before `/`, `,` and `;`, which begin the item's list or end the item. One
+-- that may end an element ends nothing before `/` and `,`, which end the element. One that means
+-- nothing ends nothing.
 abbrev pub passes : LineEnds → ℕ → Bool
 passes EndItem b = b == 47 || (b == 44 || b == 59)
 passes EndElement b = b == 47 || b == 44
@@ -70,10 +70,10 @@ space_length text = before begins_other text
 abbrev pub line_end_length : List ℕ → ℕ
 line_end_length text = if begins (λ b. b == 13) text then 2 else 1
 
--- The piece of a line end with which a text begins. If it means nothing (`Skipped`), it alone is a
--- piece `LineEnd`. If it may end an item or an element, it does so as the token `Break`, with two
--- exceptions: after all blanks and line ends the text ends, or a byte follows before which it ends
--- nothing (`passes`). Then these blanks and line ends are one piece `LineEnd`.
+-- The first piece of a text that begins with a line end. If line ends mean nothing (`Skipped`), it
+-- is `LineEnd`, this line end. Else a line end may end an item or an element. If the text ends
+-- after all blanks and line ends, or a byte follows before which a line end ends nothing
+-- (`passes`), all of these are one `LineEnd`; if not, this line end is the token `Break`.
 abbrev pub line_end : LineEnds → List ℕ → Read
 line_end Skipped text = lexeme LineEnd (line_end_length text)
 line_end EndItem text = if ends_or_begins (passes EndItem) (drop (space_length text) text) then lexeme LineEnd (space_length text) else lexeme (Token Break) (line_end_length text)
@@ -113,8 +113,8 @@ element_tail Model text = remark text
 
 -- The piece after a label of a list, inside `depth` parentheses and at this stage. It is a symbol
 -- if the text begins with a byte that ends or continues an element (`is_element_mark`), and not
--- with the dot of a number. Otherwise it is the text or value of the element outside parentheses,
--- and the token where a label is expected (`label_token`) within them.
+-- with the dot of a number. Otherwise it is, outside parentheses, the element's text or value, and
+-- inside them a label or a symbol (`label_token`).
 abbrev pub piece_after_label : Shape → ℕ → Stage → List ℕ → Read
 piece_after_label shape depth stage text =
     if begins is_element_mark text && not (begins_value_dot shape depth stage text) then symbol text else (if depth == 0 then element_tail shape text else label_token text)
@@ -128,10 +128,10 @@ in_list shape depth Expected text = label_token text
 in_list shape depth After text = piece_after_label shape depth After text
 in_list shape depth Spaced text = piece_after_label shape depth Spaced text
 
--- The piece at the start of a text that begins with neither a blank nor a line end. After a name,
--- after a domain (`Bare`, `TableBare`) and in an element of a list it is what the function for that
--- mode gives. In all other modes it is a token of code, where a quoted token is a label in the text
--- or value of a list (`Value`, `Tail`), and otherwise a text.
+-- The piece at the start of a text that begins with neither a blank nor a line end: after a name
+-- that of `piece_after_name`, after a domain (`Bare`, `TableBare`) that of `piece_after_domain`, in
+-- an element that of `in_list`. Otherwise it is a token of code; a quoted token is a label in the
+-- text or value of an element (`Value`, `Tail`), else a text.
 abbrev pub token_read : Mode → List ℕ → Read
 token_read (Named shape) text = piece_after_name text
 token_read TableNamed text = piece_after_name text
@@ -142,11 +142,11 @@ token_read (Value shape) text = code_token Label text
 token_read (Tail shape) text = code_token Label text
 token_read current text = code_token Text text
 
--- The first piece of `text` among the lines of a table. The text begins with `blanks` blanks, and
--- the first `bytes` bytes of its line are those before the `;` that ends the table, or all. The
--- piece is the blanks, if there are any and that `;`, the end of the line or a statement keyword
--- follows them. Else it is a token of code, if `bytes` is 0 or the text begins with a statement
--- keyword; else a line of the table. A quoted token of code is a text here.
+-- The first piece of `text` among the lines of a table. The text begins with `blanks` blanks;
+-- `bytes` of its first bytes precede the `;` that ends the table or, without one on the line, the
+-- line's end. The piece is the blanks, if there are any and that `;`, the line's end or a statement
+-- keyword follows them. Else it is a token of code (a quoted one is a text) if `bytes` is 0 or the
+-- text begins with a statement keyword, else a line of the table.
 abbrev pub table_piece_of : ℕ → ℕ → List ℕ → Read
 table_piece_of blanks bytes text =
     if nat_lt 0 blanks && (nat_le bytes blanks || begins_statement (drop blanks text)) then lexeme Gap blanks else (if bytes == 0 || begins_statement text then code_token Text text else table_line bytes text)

@@ -77,9 +77,9 @@ pub record StopsAt (text : List ℕ) (fault : ByteFault) : Type 0 where
   pub at : fault.at ≡ bytes_of_pieces pieces + misread.ahead
   pub error : fault.error ≡ misread.error
 
--- The source has this lexical error at this byte: an error of a line (`IsLineFault`), such as a
--- line that is too long, or one where a piece is expected in `code_text source`, the source with
--- blanks in place of comments and control lines.
+-- The source has this lexical error at this byte. It is an error of a line, such as a line that is
+-- too long (`IsLineFault`), or occurs in place of a piece when `code_text source`, the source with
+-- blanks in place of comments and control lines, is read piece by piece (`StopsAt`).
 abbrev pub IsByteFault : List ℕ → ByteFault → Type 0
 IsByteFault source fault = IsLineFault source fault ⊎ StopsAt (code_text source) fault
 

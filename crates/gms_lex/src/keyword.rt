@@ -4,7 +4,7 @@ ghost use Rattle.gms_lex.specs.Keywords.{keyword_as, keyword_of, begins_statemen
 
 use gms_grammar::{Terminal, label_length, statement_word};
 
-/// How the items of a declaration are written, in particular what a list between slashes has.
+/// A kind of declaration, by what the list between slashes of one of its items contains.
 #[derive(Clone, Copy)]
 pub enum Shape {
     /// Sets, and also variables and equations: a list has elements with texts.

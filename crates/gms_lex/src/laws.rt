@@ -13,19 +13,19 @@ ghost use Rattle.gms_lex.specs.Places.{IsEarlier, place_of_byte};
 ghost use Rattle.gms_lex.specs.Tokens.{Means, IsTokens};
 ghost use Rattle.gms_lex.specs.TokenTexts.{IsPlaced};
 
-/// Each source has either exactly one list of tokens or exactly one first fault. The places of
-/// tokens come in the order of their bytes.
+/// Each source has exactly one meaning: its list of tokens, or its first fault. A later byte has a
+/// later place.
 ///
-/// The tokens before a place determine the mode there, which says what tokens may follow. Each
-/// token except line ends and the end of the source, and each descriptive text, is the longest that
-/// its mode allows: `**` is one token and not two `*`, in code and in lists. There is an error
-/// instead of a token only if the mode allows nothing there, or if the longest text that it allows
-/// is a word or a label of over 63 bytes, or has a byte that is not ASCII.
+/// The text before a token determines its mode, which says what may follow. Each token except line
+/// ends and the end of the source, and each descriptive text, is the longest that its mode allows:
+/// `**` is one token in code or lists. Where a token may begin, there is an error only if the mode
+/// allows nothing there, or if the longest text that it allows has over 63 bytes, quotation marks
+/// not counted, or a byte that is not ASCII.
 ///
-/// Only blanks, line ends, comments, control lines and descriptive texts separate two neighbouring
-/// tokens; comments and control lines are blank in the text from which tokens are read. A line end
-/// is a token exactly if it ends an item of a declaration or an element of a list. GAMS User's
-/// Guide, "Language Items" and "GAMS Programs".
+/// Only blanks, line ends, comments, control lines and descriptive texts come between two tokens. A
+/// line end is a token exactly if it may end an item of a declaration or an element of a list in
+/// its mode, and the first byte after blanks, line ends, comments and control lines exists and is
+/// no `/` or `,` nor, after an item, `;`. GAMS User's Guide, "Language Items" and "GAMS Programs".
 pub fn token_laws()
     ensures there_is_one { (source : List ℕ) → (meaning : Result (List Token) LexFault) × Means source meaning }
     ensures only_one { (source : List ℕ) (one other : Result (List Token) LexFault) →
@@ -43,10 +43,10 @@ pub fn token_laws()
         IsBreak mode text → (bytes : ℕ) × (piece_at mode text ≡ Ok (break_of bytes)) }
 {}
 
-/// Each token consists of bytes of its source and has the place of the first of them. Words,
-/// labels, quoted texts and lines of tables are ASCII. Words and labels have at most 63 bytes
-/// without their quotation marks; a quoted text begins with its quotation mark; a line of a table
-/// has at most 32,768 bytes.
+/// Each token consists of bytes of its source, and its place is that of its start. Words, labels,
+/// quoted texts and lines of tables are ASCII. Words and labels have at most 63 bytes without their
+/// quotation marks; a quoted text begins with its quotation mark; a line of a table has at most
+/// 32,768 bytes.
 pub fn token_texts()
     ensures { (source : List ℕ) (tokens : List Token) → IsTokens source tokens → All (IsPlaced source) tokens }
 {}

@@ -106,18 +106,18 @@ fn earlier(a: Option<ByteFault>, b: Option<ByteFault>) -> Option<ByteFault>
     }
 }
 
-/// The tokens of a source, or its first lexical fault (GAMS User's Guide, "Language Items" and
-/// "GAMS Programs"). The source has at most `MOST_BYTES` bytes.
+/// The tokens of a source of at most `MOST_BYTES` bytes, or its first lexical fault (GAMS User's
+/// Guide, "Language Items" and "GAMS Programs"). `Memory` means out of memory.
 ///
-/// Each token is the longest that its mode allows, and the tokens before it determine the mode:
-/// code, a declaration, a list, or the lines of a table. Blanks, descriptive texts, comments and
-/// control lines separate tokens. The last token is `End`.
+/// The text before a token determines its mode: code, declaration, list or table. The token is the
+/// longest that its mode allows. Between tokens are blanks, descriptive texts, comments, control
+/// lines, and line ends that are no tokens. The last token is `End`.
 ///
-/// Of several faults the first by place is returned, and of those at one place the one with the
-/// least number: `BadByte` at a byte that cannot occur there, `OpenQuote` at a quotation mark that
-/// does not occur again on its line, `OpenText` at an `$ontext` without an `$offtext`, `LongLabel`
-/// at a word or label of over 63 bytes, `LongLine` at a line of over 32,768 bytes, `UnknownControl`
-/// at a control word that is not accepted. `Memory` means out of memory.
+/// The fault is the first in the source, and of those at one byte the first in this list: `BadByte`
+/// at a byte that cannot occur there, `OpenQuote` at a quotation mark not closed on its line,
+/// `OpenText` at an `$ontext` without later `$offtext`, `LongLabel` at a word or label of over 63
+/// bytes, quotation marks not counted, `LongLine` at a line of over 32,768 bytes, `UnknownControl`
+/// at an unknown control word.
 pub fn lex(alloc: Global, source: &[u8]) -> Result<Vec<Token>, LexFaultOrMemory>
     requires { length source.now ≤ most_source_bytes }
     ensures { MatchResult result (λ tokens. IsTokens source.now tokens.items) (λ e. IsLexRefusal source.now e) }

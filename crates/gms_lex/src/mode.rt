@@ -18,7 +18,8 @@ pub enum Stage {
     Spaced,
 }
 
-/// Where in a statement the next token is. With the bytes there it determines the token.
+/// Where in a statement the next token is. The mode and the bytes from there on determine the
+/// token.
 #[derive(Clone, Copy)]
 pub enum Mode {
     /// Outside declarations.
@@ -53,7 +54,8 @@ pub enum Mode {
     TableLines,
 }
 
-/// What a line end means: nothing, or the end of an item or of an element.
+/// What a line end means: nothing, the end of an item of a declaration, or the end of an element of
+/// a list.
 #[derive(Clone, Copy)]
 pub enum LineEnds {
     /// Nothing.

@@ -8,19 +8,19 @@ use gms_labels::Place;
 /// A token: what it is, which bytes of the source it takes, and its place.
 #[derive(Clone, Copy)]
 pub struct Token {
-    /// The kind of the token: what it is, without its bytes and its place.
+    /// The kind of the token, such as a word, a number or a symbol.
     pub kind: Kind,
-    /// The offset in the source of the token's first byte, from 0.
+    /// The offset in the source at which the token begins, from 0.
     pub start: u32,
-    /// The offset in the source of the first byte after the token, from 0.
+    /// The offset in the source just after the token, from 0.
     pub end: u32,
-    /// The line and column in the source of the token's first byte.
+    /// The line and column in the source at which the token begins.
     pub at: Place,
 }
 
 /// The text of a token without its quotation marks (GAMS User's Guide, "Language Items", quoted
-/// labels and texts). If `text` begins with a quotation mark, the first byte and the last byte,
-/// which in a quoted token is the other mark, are removed. Any other text is returned whole.
+/// labels and texts). If `text` begins with `"` or `'`, its first byte and its last byte are
+/// removed; of one byte nothing remains. Any other text is returned whole.
 pub fn unquoted(text: &[u8]) -> &[u8]
     ensures { result.now ≡ unquoted text.now }
 {

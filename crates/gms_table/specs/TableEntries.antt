@@ -47,7 +47,8 @@ table_of [] = []
 table_of ([] ∷ lines) = table_of lines
 table_of ((first ∷ words) ∷ lines) = map name (first ∷ words) ++ under (first ∷ words) lines
 
--- the words of the lines of a table
+-- the words of the lines of a table, in order, each with its use: as a heading or a row label, or
+-- as a cell, with its row's label and the headings above; a `+` before headings is left out
 abbrev pub table_parts : List TableLine → List TablePart
 table_parts lines = table_of (map (λ line. words_of line.line (string_bytes line.text)) lines)
 
@@ -113,12 +114,12 @@ module _ {F : Type 0} (limit : ℕ) (value : F → Number) (labels : List (List 
 -- ---- faults
 
 module _ (limit : ℕ) (labels : List (List ℕ)) where
-  -- The word has this error, after the words `before`. BadRow and Labels: a heading or a row label
-  -- is not made of labels, or has a label beyond the limit of the table of labels. Where a number
-  -- is expected, NoColumn, TwoColumns and RepeatedEntry: a number of any size shares a column with
-  -- no heading, with more than one, or with just one and has the row and the heading of an earlier
-  -- number; and BadRow: the word is no number within the limit of the size of numbers. No word has
-  -- the error NoHeading.
+  -- The word has this error, after the words `before`. A heading or a row label: BadRow, if it is
+  -- not made of labels; Labels, if one of these is beyond the limit of the table of labels. Where a
+  -- number is expected: NoColumn, TwoColumns or RepeatedEntry, if a number of any size shares a
+  -- column with no heading, with more than one, or with just one and an earlier number has its row
+  -- and heading; BadRow, if the word is no number within the limit of the size of numbers. No word
+  -- has NoHeading.
   abbrev pub IsPartFault : List TablePart → TablePart → TableError → Type 0
   IsPartFault before (name word) BadRow = labels_of_text word.text ≡ None
   IsPartFault before (name word) Labels = most_labels < length (all_entered labels (label_texts before ++ labels_of_word word))

@@ -24,7 +24,8 @@ abbrev pub plain_label : List ℕ → Option (List ℕ)
 plain_label text =
     if begins is_ascii_alphanumeric text && (prefix_len is_label_byte text == length text && nat_le (length text) longest_label) then Some text else None
 
--- the label that a text is, with or without quotation marks; None if it is none
+-- the label that a text is, without the quotation marks if the text has some; None if the text is
+-- no label
 abbrev pub label_of_text : List ℕ → Option (List ℕ)
 label_of_text [] = None
 label_of_text (b ∷ rest) = if is_quote b then quoted_label b rest else plain_label (b ∷ rest)

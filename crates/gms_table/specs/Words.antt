@@ -45,8 +45,8 @@ word_of at end (b ∷ text) = record { at = at; end = end; text = b ∷ text } �
 abbrev pub word_at : ℕ → List ℕ → ℕ → List ℕ → List Word
 word_at number line start text = word_of record { line = number; column = column_of_byte line start } (column_of_byte line (start + length text)) text
 
--- the words among these fields of a line, numbered `number`, where the first field begins at byte
--- `start` of the line; empty fields are no words
+-- the words among these fields of the line `line`, which has the number `number` in the source; the
+-- first field begins at byte `start` of the line, and empty fields are no words
 abbrev pub words_among : ℕ → List ℕ → ℕ → List (List ℕ) → List Word
 words_among number line start [] = []
 words_among number line start (text ∷ others) = word_at number line start text ++ words_among number line (start + length text + 1) others

@@ -6,8 +6,7 @@ use gms_labels::Place;
 /// `;` that ends the table.
 #[derive(Drop)]
 pub struct TableLine {
-    /// The text of the line. Blanks separate its words; labels in quotation marks may contain
-    /// blanks too.
+    /// The text of the line without its end. Spaces and tabs separate words outside quoted labels.
     pub text: String,
     /// The number of the line in the source, from 1.
     pub line: u32,
@@ -19,14 +18,13 @@ pub struct TableLine {
 /// `a.b` and under the heading `x`.
 #[derive(Drop)]
 pub struct Entry<F> {
-    /// The place in the source at which the number begins, with its sign if it has one.
+    /// The place in the source at which the number begins, or its sign if it has one.
     pub at: Place,
-    /// The labels of the row, by their numbers in the table of labels, in the order in which they
-    /// are written.
+    /// The labels of the row label, in the order of writing, by their numbers in the table of
+    /// labels.
     pub row: Sequence<u32>,
-    /// The labels of the heading, by their numbers in the table of labels, in the order in which
-    /// they are written.
+    /// The labels of the heading, in the order of writing, by their numbers in the table of labels.
     pub column: Sequence<u32>,
-    /// The number of the table in this row, under this heading.
+    /// The number that the table has in this row, under this heading.
     pub value: F,
 }

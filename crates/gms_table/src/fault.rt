@@ -65,14 +65,14 @@ impl TableError {
 #[derive(Clone, Copy, Debug, Error)]
 #[error("{at}: {code} {name}: {error}", code = .error.code(), name = .error.name())]
 pub struct TableFault {
-    /// The error of the table, by its cause.
+    /// The error, without its place.
     pub error: TableError,
-    /// The place in the source of the word at which the error occurs. It has line 0 and column 0 if
-    /// the table has no headings.
+    /// Where in the source the word with the error begins; line 0 and column 0 for `NoHeading`,
+    /// which is at no word.
     pub at: Place,
 }
 
-/// Why a table is not read: it has an error, or memory runs out.
+/// Why a table gives no entries: an error, or out of memory.
 #[derive(Clone, Copy, Debug, Error)]
 pub enum TableFaultOrMemory {
     /// Out of memory.

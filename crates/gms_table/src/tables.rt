@@ -165,26 +165,26 @@ fn read_rows<F: ExactField>(
 /// The entries of a table, in the order of its numbers (GAMS User's Guide, "Data Entry: Parameters,
 /// Scalars and Tables").
 ///
-/// The first line with words has the headings. A line whose first word is `+` has new headings
-/// after this word, which apply to the rows below. Every other line is a row: a row label, and
-/// numbers. Headings and row labels are labels joined by dots; the labels are entered in `labels`
-/// in the order of their occurrence. Each number belongs to the one heading with which it shares a
-/// column: the columns of a number or a heading go from that of its first byte up to that of the
-/// byte after it, which does not belong to them. Lines without words are skipped. A line has at
-/// most 32,768 bytes.
+/// The first line with words has the headings. Of the lines below it, one whose first word is `+`
+/// has new headings after this word, in place of the earlier ones; any other is a row: a row label,
+/// and numbers. Lines without words are skipped. Headings and row labels are labels joined by dots;
+/// new labels are appended to `labels` in the order of their occurrence. Each number belongs to the
+/// one heading with which it shares a column: the columns of a word go from that of its first byte
+/// up to, and without, that of the byte after it. A line may have at most 32,768 bytes.
 ///
-/// The fault that is returned is the first in the order of the lines, and of several at one word
-/// the one with the least error number, in the order of this list:
-/// - `NoColumn` (21) comes at a number that shares a column with no heading;
-/// - `TwoColumns` (22) at a number that shares columns with two or more;
-/// - `RepeatedEntry` (23) at a number whose row label and heading an earlier number has;
+/// The fault, unless it is `NoHeading`, is at the first word with a fault, by line and then from
+/// left to right. Of several faults at this word it is the one with the least error number:
+/// - `NoColumn` (21) at a number of any size that shares a column with no heading;
+/// - `TwoColumns` (22) at a number of any size that shares columns with two or more headings;
+/// - `RepeatedEntry` (23) at a number of any size whose row label and heading an earlier number
+///   has, letter case ignored;
 /// - `BadRow` (24) at a heading or a row label that is not made of labels, and at any other word of
-///   a row that is no number within the limit of the field `F`;
+///   a row that is no number within the limit of `F`;
 /// - `NoHeading` (25), at line 0 and column 0, exactly if no line has a word;
 /// - `Labels` (26) at a heading or a row label with a label after the 65,536th, the most that
 ///   `labels` may have.
 ///
-/// `Memory` means out of memory. After any of these, `labels` may have more labels than before.
+/// `Memory` means out of memory. After any error `labels` may have more labels than before.
 pub fn table<F: ExactField>(
     alloc: Global,
     lines: &[TableLine],

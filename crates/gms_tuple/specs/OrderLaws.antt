@@ -10,7 +10,8 @@ use Rattle.gms_tuple.specs.TupleOrder.{tuple_cmp, same_tuple}
 pub tuple_cmp-total : IsTotalOrder tuple_cmp
 tuple_cmp-total = nat_list_cmp_total
 
--- two tuples have the same labels if and only if neither comes before the other
+-- two tuples have the same length and at each position the same label if and only if neither comes
+-- before the other
 pub same_tuple-tuple_cmp : (a b : List ℕ) → same_tuple a b ≡ eq_by_cmp tuple_cmp a b
 same_tuple-tuple_cmp a b = lists_ties nat_cmp unsigned_ties a b
 

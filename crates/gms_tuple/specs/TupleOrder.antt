@@ -14,7 +14,7 @@ tuple_cmp a b = slice_cmp nat_cmp a b
 abbrev pub is_before : List ℕ → List ℕ → Bool
 is_before a b = is_lt (tuple_cmp a b)
 
--- whether two tuples have the same labels
+-- whether two tuples have the same length and at each position the same label
 abbrev pub same_tuple : List ℕ → List ℕ → Bool
 same_tuple a b = pointwise nat_eq a b
 

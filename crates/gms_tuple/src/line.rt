@@ -12,10 +12,10 @@ use std::marker::Model;
 /// How many tuples follow the tree at most.
 const MOST_BEHIND: usize = 64;
 
-/// A list of tuples, stored as a tree and the vector `following` of the tuples after it. A tuple is
-/// reached, inserted and removed by its index, in logarithmic time. An appended tuple needs no
-/// search: it is pushed to `following`, whose tuples move into the tree once there are 64 of them
-/// (`MOST_BEHIND`).
+/// A list of tuples: those of a tree, followed by those of the vector `following`. A tuple is
+/// reached, inserted and removed by its index, in logarithmic time. A tuple is appended to
+/// `following` without a search. If `following` has 64 tuples (`MOST_BEHIND`), the next insertion
+/// moves them into the tree.
 pub struct Line {
     tree: Tree,
     following: Vec<Tuple>,

@@ -33,8 +33,8 @@ impl Operation {
     }
 }
 
-/// The tuples of the set that results from an operation on the sets `first` and `second`. All three
-/// sets are given by their tuples, distinct and in the order of tuples (label by label, a proper
+/// The tuples of the union, difference or intersection (`operation`) of the sets `first` and
+/// `second`. Each set is the list of its tuples, distinct and in order (label by label, a proper
 /// prefix first). The error is out of memory.
 pub fn combined(
     alloc: Global,

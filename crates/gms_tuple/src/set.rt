@@ -79,9 +79,9 @@ impl TupleSet {
         self.place(t).is_ok()
     }
 
-    /// Inserts a tuple at its index in the order of tuples. The result is true if the tuple was no
-    /// member before, and false if it was, in which case the set stays as it is. If memory runs
-    /// out, the set is unchanged.
+    /// Inserts `t` in the order of tuples (label by label, a proper prefix first), and returns
+    /// true. If `t` is a member, the call only returns false. On the error, out of memory, the set
+    /// is unchanged.
     pub fn insert(&mut self, alloc: Global, t: Tuple) -> Result<bool, AllocError>
         ensures new { IfOk result (λ new. new ≡ not (has self.old t)) }
         ensures ok { OnOk result (self.new ≡ inserted self.old t) }
@@ -120,10 +120,10 @@ impl TupleSet {
         true
     }
 
-    /// The members that begin with all labels of `prefix`, as a range of indices from 0: the index
-    /// of the first such member, and the index after the last one.
+    /// The range of the indices, from 0, of the members that begin with all labels of `prefix`: the
+    /// index of the first such member, and the index after the last one.
     ///
-    /// If no member begins with them, both are the index at which such a member would be inserted.
+    /// Without such a member both are the index at which `prefix` would be inserted.
     pub fn span(&self, prefix: &Tuple) -> (usize, usize)
         ensures from { result.0 ≡ count_before self.now prefix.now }
         ensures upto { result.1 ≡ result.0 + count_with self.now prefix.now }

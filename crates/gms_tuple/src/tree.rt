@@ -16,9 +16,9 @@ use std::mem;
 const MOST_OWN: usize = 64;
 
 /// A list of tuples, stored as a binary tree. A tuple is reached, inserted and removed by its
-/// index, in time proportional to the depth of the tree. Neither side of a fork, which is an inner
-/// node, has more than about three times as many tuples as the other, so the depth is logarithmic
-/// in the number of tuples.
+/// index, in time proportional to the depth of the tree. Neither subtree of an inner node (a fork)
+/// has more than about three times as many tuples as the other, so the depth is logarithmic in the
+/// number of tuples.
 #[cycle(tree)]
 #[derive(Drop)]
 pub struct Tree {

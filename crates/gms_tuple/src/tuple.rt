@@ -11,13 +11,13 @@ use std::marker::Model;
 /// How many labels a tuple has at most.
 pub const MOST_LABELS: usize = 10;
 
-/// How many labels a tuple stores without an allocation.
+/// How many labels at most a tuple stores inside itself.
 const MOST_INSIDE: usize = 4;
 
-/// A tuple of at most 10 labels, each by its number. It takes 32 bytes; if it has more than four
-/// labels, it takes up to 40 bytes more, which are allocated.
+/// A tuple of at most 10 labels, each by its number in the table of labels. It takes 32 bytes, and
+/// with over four labels up to 40 allocated bytes more.
 ///
-/// Tuples are ordered label by label, and a proper prefix comes before the longer tuple. In
+/// Tuples are ordered label by label, by number; a proper prefix comes before the longer tuple. In
 /// `parameter c(i,j) /seattle.chicago 1.7/` the element is a tuple of two labels.
 pub struct Tuple {
     labels: SmallVec<u32, 4>,

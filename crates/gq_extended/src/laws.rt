@@ -8,14 +8,13 @@ ghost use Rattle.gq_extended.specs.Extended.{Extended, number, plus_infinity, mi
 ghost use Rattle.gq_extended.specs.declared.fault.ExtendedFault.TheVariants.{Divide};
 ghost use Rattle.gq_extended.specs.ExtendedOrder.{equals, is_less, is_at_most, lesser, greater};
 
-/// Without infinities and NA, the operations are those of exact arithmetic. A product, a quotient
-/// or a power is the exact number if its numerator and denominator are at most the limit in
-/// magnitude, and else the fault `Limit`. A sum or a difference is the exact number if its
-/// intermediate numbers are at most the limit too, and else `Limit`. The other results are always
-/// exact.
+/// On numbers, without infinities and NA, each result is the exact number or the fault `Limit`. A
+/// product, a quotient or a power is `Limit` exactly if its numerator or denominator exceeds the
+/// limit in magnitude; a sum or a difference, if an integer of the addition (`sum_fits`) does. The
+/// other results are never `Limit`.
 ///
-/// The law on quotients is only about divisors other than 0. The law on powers is only about bases
-/// other than 0, integer exponents of at most 1,024 in magnitude, and limits of at least 1.
+/// The law on quotients is only about divisors other than 0, that on powers only about bases other
+/// than 0, integer exponents of at most 1,024 in magnitude, and limits of at least 1.
 pub fn number_laws()
     ensures sum { (limit : ℕ) (x y : Number) →
         sum limit (number x) (number y) ≡ number_if (sum_fits limit x y) (x +ℚ y) }
@@ -43,10 +42,9 @@ pub fn number_laws()
     ensures at_most { (x y : Number) → IsTrue (is_at_most (number x) (number y)) ↔ (x ≤ℚ y) }
 {}
 
-/// Sums and products do not depend on the order of their operands, faults included. A difference is
-/// the sum with the negated value, and a value negated twice is the value. A quotient whose divisor
-/// is 0 is the fault `Divide`, even if NA is divided. A sum, a difference and a product are NA if
-/// an operand is, and so is NA over a divisor other than 0.
+/// x + y = y + x, x * y = y * x and x - y = x + (-y), faults included; -(-x) = x. A quotient x / 0
+/// is the fault `Divide`, even if x is NA. A sum, a difference and a product are NA if an operand
+/// is, and NA / x is NA if x is not 0.
 pub fn step_laws()
     ensures sum_commutes { (limit : ℕ) (x y : Extended) → sum limit x y ≡ sum limit y x }
     ensures product_commutes { (limit : ℕ) (x y : Extended) →
@@ -73,9 +71,9 @@ pub fn remainder_laws()
         remainder limit (number x) (number y) ≡ Ok (number r) → abs_ℚ r <ℚ abs_ℚ y }
 {}
 
-/// The relations: `=` is equality, NA included; `<` orders all values except NA, with every number
-/// between the infinities; neither `<` nor `<=` holds if a side is NA. The lesser and the greater
-/// of two values other than NA follow from `<=`.
+/// `=` is equality, also of NA; `<` and `<=` are false with NA. `<` is transitive, and each number
+/// is between the infinities. Without NA, x <= y is x < y or x = y, and not y < x; the lesser is x
+/// if x <= y, the greater x if y <= x, else y.
 pub fn relation_laws()
     ensures equals { (x y : Extended) → IsTrue (equals x y) ↔ (x ≡ y) }
     ensures transitive { (x y z : Extended) →
@@ -96,9 +94,8 @@ pub fn relation_laws()
         greater x y ≡ (if is_at_most y x then x else y) }
 {}
 
-/// Powers with integer exponents: the power 0 is 1, and the power 1 is the number itself. For a
-/// number other than 0, the power whose exponent is a sum is the product of the powers. 0 to a
-/// power above 0 is 0.
+/// Powers x^n with integer exponents n: x^0 = 1, for x = 0 too; x^1 = x; x^(n + m) = x^n * x^m if x
+/// is not 0; 0^n = 0 if n is above 0.
 pub fn power_laws()
     ensures zeroth { (x : Number) → power_ℚ x (pos 0) ≡ whole (pos 1) }
     ensures first { (x : Number) → power_ℚ x (pos 1) ≡ x }

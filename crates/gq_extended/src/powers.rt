@@ -61,12 +61,11 @@ fn number_power<F: ExactField>(base: F, exponent: i32) -> Result<Ext<F>, Extende
 }
 
 impl<F: ExactField> Ext<F> {
-    /// The value to the power `exponent`. `Exponent` exactly if `exponent` is no number, no
-    /// integer, or above 1,024 in magnitude, whatever the base; else `Divide` exactly for 0 to a
-    /// power below 0, and `Limit` exactly for a number whose reduced power exceeds the field's
-    /// limit. To the power 0 everything is 1, NA too; to any other power NA is NA. An infinity is 0
-    /// to a power below 0. To a power above 0 it is `inf`, except that `-inf` to an odd power is
-    /// `-inf`.
+    /// The value to the power `exponent`. The error is `Exponent` exactly if `exponent` is no
+    /// integer, or above 1,024 in magnitude; else `Divide` exactly for 0 to a power below 0, and
+    /// `Limit` exactly for a number whose power's numerator or denominator exceeds `F.limit`. To
+    /// the power 0 everything is 1, NA too; to any other power NA is NA. An infinity is 0 to a
+    /// power below 0. To a power above 0 it is `inf`, except that `-inf` to an odd power is `-inf`.
     #[tactic(auto, unfolding(crate::specs::Extended::power))]
     pub fn power(self, exponent: Ext<F>) -> Result<Ext<F>, ExtendedFault>
         ensures { outcome F.value result

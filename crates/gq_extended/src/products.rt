@@ -21,10 +21,10 @@ fn infinity<F: ExactField>(sign: i8, other: i8) -> Result<Ext<F>, ExtendedFault>
 }
 
 impl<F: ExactField> Ext<F> {
-    /// The product of the value and `other`; NA if either is NA. `Limit` exactly if both are
-    /// numbers and their product in the field is `Limit`, and `Undefined` exactly for an infinity
-    /// times 0. Any other product with an infinity is the infinity whose sign is the product of the
-    /// two signs.
+    /// The product of the value and `other`; NA if either is NA. The error is `Limit` exactly for
+    /// two numbers whose product's numerator or denominator exceeds `F.limit`, `Undefined` exactly
+    /// for an infinity times 0. Any other product with an infinity is one with the product of the
+    /// signs.
     #[tactic(auto, unfolding(crate::specs::Extended::product))]
     pub fn mul(self, other: Ext<F>) -> Result<Ext<F>, ExtendedFault>
         ensures { outcome F.value result
@@ -52,11 +52,11 @@ impl<F: ExactField> Ext<F> {
         }
     }
 
-    /// The value divided by `other`. `Divide` exactly if `other` is the number 0, whatever the
-    /// value is; else NA if either is NA, `Limit` exactly if both are numbers and their quotient in
-    /// the field is `Limit`, and `Undefined` exactly for an infinity over an infinity. A number
-    /// over an infinity is 0, and an infinity over a number is the infinity whose sign is the
-    /// product of the two signs.
+    /// The value divided by `other`. The error is `Divide` exactly if `other` is the number 0, even
+    /// for NA; `Undefined` exactly for an infinity over an infinity; `Limit` exactly for two
+    /// numbers whose quotient's numerator or denominator exceeds `F.limit`. Else NA if either is
+    /// NA, 0 for a number over an infinity, and for an infinity over a number one with the product
+    /// of the signs.
     #[tactic(auto, unfolding(crate::specs::Extended::quotient))]
     pub fn div(self, other: Ext<F>) -> Result<Ext<F>, ExtendedFault>
         ensures { outcome F.value result
@@ -70,9 +70,9 @@ impl<F: ExactField> Ext<F> {
         }
     }
 
-    /// The remainder of the value divided by `other`, in four steps: the quotient; the quotient
-    /// without its fractional part; this times `other`; and the value less this product. The fault
-    /// is that of the first step that has one.
+    /// The remainder of the value divided by `other`, in four steps: the quotient; t, the quotient
+    /// without its fractional part; t times `other`; the value less this product. The error is that
+    /// of the first step that has one.
     #[tactic(auto, unfolding(crate::specs::Extended::remainder))]
     pub fn remainder(self, other: Ext<F>) -> Result<Ext<F>, ExtendedFault>
         ensures { outcome F.value result

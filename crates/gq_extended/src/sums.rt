@@ -21,9 +21,9 @@ impl<F: ExactField> Ext<F> {
         }
     }
 
-    /// The sum of the value and `other`; NA if either is NA. `Limit` exactly if both are numbers
-    /// and their sum does not fit under the field's limit, where intermediate numbers count too;
-    /// and `Undefined` exactly for two opposite infinities.
+    /// The sum of the value and `other`; NA if either is NA. `Limit` exactly if the sum of two
+    /// numbers computes an integer beyond `F.limit`, `Undefined` exactly for two opposite
+    /// infinities. Else a sum with an infinity is this infinity.
     #[tactic(auto, unfolding(crate::specs::Extended::sum))]
     pub fn add(self, other: Ext<F>) -> Result<Ext<F>, ExtendedFault>
         ensures { outcome F.value result

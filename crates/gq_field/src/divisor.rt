@@ -36,9 +36,8 @@ fn gcd_of_any(a: u128, b: u128) -> u128
     gcd_of_words(x as u64, y as u64) as u128
 }
 
-/// The greatest common divisor of two words: that of their odd parts, times the greatest power of 2
-/// that divides both. The binary algorithm of Knuth, The Art of Computer Programming, volume 2,
-/// 4.5.2. The greatest common divisor of 0 and a number is the number.
+/// The greatest common divisor of `a` and `b`; that of 0 and a number is the number. The binary
+/// algorithm of Knuth, The Art of Computer Programming, volume 2, 4.5.2.
 pub fn gcd_of_words(a: u64, b: u64) -> u64
     ensures { result ≡ gcd a b }
 {

@@ -11,18 +11,18 @@ use crate::sum::{difference, sum};
 use std::cmp::Ordering;
 use thiserror::Error;
 
-/// Why an operation of a field has no result: the result, or a number that is computed on the way
-/// to it, does not fit under the field's limit.
+/// Why an operation of a field has no result: a numerator or a denominator that it computes exceeds
+/// the field's limit in magnitude.
 #[derive(Clone, Copy, Debug, PartialEq, Eq, Error)]
 #[error("beyond the field's limit")]
 pub struct Limit;
 
-/// A field of exact numbers whose numerators and denominators are at most a limit in magnitude.
+/// A type of exact rational numbers whose numerators and denominators are at most a limit in
+/// magnitude.
 ///
-/// Each value of the type means a number (`value`), whose numerator and denominator are those of
-/// its reduced fraction. An operation returns the exact number if it fits under the limit, and the
-/// error `Limit` exactly if it does not. A sum or a difference fits if each number that is computed
-/// on the way to it is at most the limit in magnitude: the two numerators over the least common
+/// Each value of the type means a number (`value`). An operation returns the exact result if that
+/// fits under the limit, and otherwise the error `Limit`. A sum or a difference fits if each
+/// of these integers is at most the limit in magnitude: the two numerators over the least common
 /// denominator, their sum or difference, and the denominator of the reduced result. Any other
 /// result fits if its reduced numerator and denominator are at most the limit in magnitude.
 pub trait ExactField: Copy {

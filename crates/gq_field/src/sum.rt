@@ -81,9 +81,9 @@ fn sum_over_common(limit: u128, x: Fraction, y: Fraction) -> Result<Fraction, Li
     })
 }
 
-/// The sum of `x` and `y`. The error `Limit` comes exactly if a number that is computed on the way
-/// to it exceeds `limit` in magnitude: the numerator of `x` or of `y` over their least common
-/// denominator, the sum of these two numerators, or the denominator of the reduced result.
+/// The sum of `x` and `y`. The result is the error `Limit` exactly if one of these integers exceeds
+/// `limit` in magnitude: the numerators of `x` and `y` over their least common denominator, the sum
+/// of these two numerators, and the denominator of the reduced result.
 #[inline(always)]
 pub fn sum(limit: u128, x: Fraction, y: Fraction) -> Result<Fraction, Limit>
     requires { limit < 2 ^ 127 }

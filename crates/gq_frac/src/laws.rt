@@ -9,9 +9,9 @@ ghost use Rattle.gq_frac.specs.declared.frac.Frac.{Frac};
 ghost use Rattle.gq_frac.specs.Frac.{frac_limit, frac_value};
 ghost use Rattle.gq_frac.specs.Steps.{KeepsAnswer};
 
-/// A sum fits in 63 bits if each number that is computed on the way to it has at most 63 bits. Then
-/// it fits in 127 bits too. So if `add` of two numbers as `Half` returns a number, `add` of the
-/// same two as `Frac` returns the same number.
+/// If no integer that the sum of x and y computes exceeds 2^63 - 1, the limit of `Half`, in
+/// magnitude, none exceeds the limit of `Frac`. So if `add` of two numbers as `Half` returns a
+/// number, `add` as `Frac` returns the same.
 pub fn add_laws()
     ensures fits { (x y : Number) → sum_fits (2 ^ 63 - 1) x y ≡ true → sum_fits frac_limit x y ≡ true }
     ensures answers { (x y : Number) (narrow : Result Half Limit) (wide : Result Frac Limit) →
@@ -19,9 +19,9 @@ pub fn add_laws()
         Answers frac_value wide (sum_fits frac_limit x y) (x +ℚ y) → KeepsAnswer narrow wide }
 {}
 
-/// A difference fits in 63 bits if each number that is computed on the way to it has at most 63
-/// bits. Then it fits in 127 bits too. So if `sub` of two numbers as `Half` returns a number, `sub`
-/// of the same two as `Frac` returns the same number.
+/// If no integer that the difference of x and y computes exceeds 2^63 - 1, the limit of `Half`, in
+/// magnitude, none exceeds the limit of `Frac`. So if `sub` of two numbers as `Half` returns a
+/// number, `sub` as `Frac` returns the same.
 pub fn sub_laws()
     ensures fits { (x y : Number) →
         sum_fits (2 ^ 63 - 1) x (neg_ℚ y) ≡ true → sum_fits frac_limit x (neg_ℚ y) ≡ true }

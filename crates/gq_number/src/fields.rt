@@ -2,7 +2,7 @@
 ghost use Rattle.std.specs.Prelude.{◌≡◌, ◌≢◌, ◌↔◌, ◌⊎◌, pos};
 ghost use Rattle.gq_number.specs.Number.{Number, whole, ◌+ℚ◌, ◌-ℚ◌, ◌*ℚ◌, ◌/ℚ◌, neg_ℚ, inv_ℚ};
 
-/// The axioms of a field, as in Rudin, Principles of Mathematical Analysis, definition 1.12. A
+/// The rationals are a field (Rudin, Principles of Mathematical Analysis, definition 1.12). A
 /// difference is the sum with the negated number, and a quotient is the product with the
 /// reciprocal.
 pub fn field_laws()
@@ -20,8 +20,8 @@ pub fn field_laws()
     ensures quotient { (x y : Number) → x /ℚ y ≡ x *ℚ inv_ℚ y }
 {}
 
-/// When equal terms and factors cancel; that a number has one negated number and, unless it is 0,
-/// one reciprocal; and products with 0 and with negated numbers: Rudin, Principles of Mathematical
+/// Equal terms, and equal factors not 0, cancel. A number has one negated number and, unless it is
+/// 0, one reciprocal. Products with 0 and negated numbers: Rudin, Principles of Mathematical
 /// Analysis, 1.14 to 1.16.
 pub fn cancellation_laws()
     ensures sum_cancels { (x y z : Number) → x +ℚ y ≡ x +ℚ z → y ≡ z }

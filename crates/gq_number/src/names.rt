@@ -4,11 +4,11 @@ ghost use Rattle.gq_number.specs.Reduced.{IsReduced};
 ghost use Rattle.gq_number.specs.Number.{Number, whole, ratio, ◌+ℚ◌, ◌*ℚ◌, ◌/ℚ◌, neg_ℚ};
 ghost use Rattle.gq_number.specs.Order.{◌≤ℚ◌, ◌<ℚ◌};
 
-/// When numbers and ratios are equal: cross products decide it, a number is the ratio of its
-/// numerator and its denominator, and a reduced ratio keeps its two parts. As rational numbers,
-/// whole numbers have the same sums, products and order. The ratio of two whole numbers is their
-/// quotient. A decimal literal is the ratio of its digits and a power of ten, and a 0 after its
-/// last digit does not change it. Rationals as pairs: any algebra text.
+/// Two numbers are equal exactly if their cross products are; so are two ratios with denominators
+/// above 0. A number is the ratio of its numerator and denominator; a reduced ratio keeps its two
+/// parts. A ratio is the quotient of its parts. Integers keep their sums, products, negations and
+/// order. A decimal's digits over a power of ten equal the part before the point plus that after
+/// it; a 0 appended after the point changes nothing. Any algebra text.
 pub fn name_laws()
     ensures same_number { (x y : Number) → (x ≡ y) ↔
         (x.numerator *ℤ pos y.denominator ≡ y.numerator *ℤ pos x.denominator) }

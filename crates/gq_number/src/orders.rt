@@ -37,8 +37,9 @@ pub fn monotone_laws()
     ensures square { (x : Number) → whole (pos 0) ≤ℚ x *ℚ x }
 {}
 
-/// The sign of a number is 1 above 0, 0 at 0 and -1 below 0. Products and quotients are above 0 for
-/// like signs and below 0 for unlike signs, as in any algebra text.
+/// The sign of a number is 1 above 0, 0 at 0 and -1 below 0. The product of two numbers is above 0
+/// for like signs and below 0 for unlike signs, and so is a quotient whose dividend is above 0, as
+/// in any algebra text.
 pub fn sign_laws()
     ensures above { (x : Number) → (sign_of x ≡ pos 1) ↔ (whole (pos 0) <ℚ x) }
     ensures at_zero { (x : Number) → (sign_of x ≡ pos 0) ↔ (x ≡ whole (pos 0)) }

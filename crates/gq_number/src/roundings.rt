@@ -26,8 +26,8 @@ pub fn ceiling_laws()
 {}
 
 /// Truncation gives the floor of a number at or above 0, and the ceiling of one at or below 0.
-/// Rounding gives a whole number that is at most one half away from the number, and takes halves
-/// away from 0. These are the functions trunc and round of the GAMS User's Guide, "Functions".
+/// Rounding gives an integer at most one half away, of two such the one farther from 0. Both keep
+/// integers. These are the functions trunc and round of the GAMS User's Guide, "Functions".
 pub fn rounding_laws()
     ensures truncated_from_zero { (x : Number) → whole (pos 0) ≤ℚ x → truncated x ≡ floor_of x }
     ensures truncated_to_zero { (x : Number) → x ≤ℚ whole (pos 0) → truncated x ≡ ceiling_of x }

@@ -6,9 +6,10 @@ ghost use Rattle.gq_number.specs.Number.{Number, whole, ◌+ℚ◌, ◌*ℚ◌};
 ghost use Rattle.gq_number.specs.Order.{◌≤ℚ◌};
 ghost use Rattle.gq_number.specs.Sums.{sum_by_ℚ, inner_ℚ, scaled, added, combined, applied};
 
-/// How the sum of the values of a function at the entries of a list is computed, over more entries,
-/// in another order, and of sums and multiples; and how two sums compare: Graham, Knuth and
-/// Patashnik, Concrete Mathematics, chapter 2.
+/// Laws of the sum of a function's values at the entries of a list: over no entry, over one entry
+/// more, and over two lists in sequence; of sums and of multiples; double sums; the sum in any
+/// order; equal and greater terms. A sum of values at least 0 is at least 0, and 0 only if all are
+/// 0. Graham, Knuth and Patashnik, Concrete Mathematics, chapter 2.
 pub fn sum_laws<X, Y>()
     ensures over_none { (f : X → Number) → sum_by_ℚ f [] ≡ whole (pos 0) }
     ensures over_more { (f : X → Number) (x : X) (xs : List X) →
@@ -33,16 +34,14 @@ pub fn sum_laws<X, Y>()
         sum_by_ℚ f xs ≡ whole (pos 0) → All (λ x. f x ≡ whole (pos 0)) xs }
 {}
 
-/// The inner product of two lists is linear in each of them. In a product or a sum of two lists,
-/// what the shorter one lacks counts as 0. Let each row have a factor. The sum of the rows' inner
-/// products with a list, each times its factor, is the inner product of the list with the
-/// combination of the rows by these factors (`exchanged`).
+/// The inner product of two lists is linear in each of them, as if zeros extended the shorter list.
+/// With A the matrix of `rows`, ys · (A xs) = (ys A) · xs (`exchanged`).
 ///
 /// If no number of the two lists is below 0, neither is the inner product (`at_least_zero`); if it
-/// is 0 then, so is each product of two numbers at one position (`zero_only`). If `xs` and `ys`
+/// is also 0, so is each product of two numbers at one position (`zero_only`). If `xs` and `ys`
 /// have one length, no number of `xs` exceeds that of `ys` at its position, and no number of `zs`
-/// is below 0, then the inner product of `xs` with `zs` is at most that of `ys` with `zs`
-/// (`greater`). Any text on linear algebra; Chvátal, Linear Programming, chapter 5.
+/// is below 0, then xs · zs ≤ ys · zs (`greater`). Any text on linear algebra; Chvátal, Linear
+/// Programming, chapter 5.
 pub fn inner_product_laws()
     ensures products { (xs ys : List Number) →
         inner_ℚ xs ys ≡ sum_by_ℚ (λ p. p.0 *ℚ p.1) (zip xs ys) }

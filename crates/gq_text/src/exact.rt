@@ -27,9 +27,9 @@ pub fn read_whole(text: &[u8]) -> Option<u128>
     }
 }
 
-/// The number within the field's limit of which the text is the exact text: its numerator, after
-/// `-` if it is below 0, followed, if its denominator is not 1, by `/` and the denominator. The two
-/// have no common factor, and no leading zeros. `None` exactly if there is no such number.
+/// The number whose exact text is `text`: the numerator of its reduced fraction, after `-` if the
+/// number is below 0, followed, if the denominator is not 1, by `/` and the denominator, without
+/// leading zeros. `None` exactly if no number within the field's limit has this text.
 pub fn read_exact<F: ExactField>(text: &[u8]) -> Option<F>
     ensures value { IfSome result (λ x. text.now ≡ exact_text (F.value x)) }
     ensures found { (x : Number) → fits F.limit x ≡ true → text.now ≡ exact_text x → IsSomeAnd result (λ y. F.value y ≡ x) }

@@ -9,10 +9,10 @@ ghost use Rattle.gq_text.specs.Shown.{most_decimals, IsFixedSigned, IsRoundedTex
 use crate::show::MOST_DECIMALS;
 
 /// A text means at most one number in each of three readings: as a decimal without a sign; as a
-/// decimal, perhaps after `-`; and as the latter, perhaps followed by `/` and a decimal without a
-/// sign, which together mean the quotient. A number is in at most one way m times 10^e, with a
-/// natural number m that does not end in 0. So whether a decimal fits under a field's limit, which
-/// m and e decide, depends on its number and not on how it is written.
+/// decimal, perhaps after `-`; and as a text of the second reading, perhaps followed by `/` and a
+/// decimal without a sign (the quotient). A number is in at most one way m times 10^e, with a
+/// natural number m that does not end in 0. So whether a decimal is within a field's limit, which m
+/// and e decide, depends on its number and not on how it is written.
 pub fn reading_laws()
     ensures one_number { (text : List ℕ) (x y : Number) →
         MeansNumber text x → MeansNumber text y → x ≡ y }
@@ -26,14 +26,14 @@ pub fn reading_laws()
 
 /// A natural number has at most one numeral: its decimal digits without leading zeros. A number has
 /// at most one exact text: its reduced numerator, followed by `/` and the denominator if this is
-/// not 1. It has at most one rounded text for each number of decimals: the number rounded to this
-/// many decimals, halves away from 0. `-` precedes the text of a number below 0, unless the number
-/// is rounded to 0.
+/// not 1. For each number of decimals it has at most one rounded text: the number rounded to this
+/// many decimals, halves away from 0. `-` precedes the text of a number below 0 that is not rounded
+/// to 0.
 ///
-/// A number's exact text reads back as the number itself, and the text of an integer over
-/// 10^`decimals`, with that many decimals, as this fraction. A number's rounded text reads back as
-/// a number at most half a unit of the last place from it. Conversely, a text with this number of
-/// decimals that reads back as a number less than half a unit from it is its rounded text.
+/// The exact text of x means x (`exact_reads_back`). The text of n / 10^d with d decimals, n an
+/// integer, means n / 10^d (`fixed_reads`). Let u be 10^-d. The rounded text of x with d decimals
+/// means a number at most u / 2 from x (`rounded_near`). A text with d decimals that means a number
+/// less than u / 2 from x is the rounded text of x with d decimals (`rounded_only`).
 pub fn showing_laws()
     ensures one_numeral { (n : ℕ) (s t : List ℕ) → IsNumeral n s → IsNumeral n t → s ≡ t }
     ensures one_exact { (x : Number) (s t : List ℕ) → IsExactText x s → IsExactText x t → s ≡ t }
@@ -51,9 +51,9 @@ pub fn showing_laws()
         abs_ℚ (x -ℚ y) <ℚ ratio (pos 1) (2 * 10 ^ decimals) → IsRoundedText decimals x text }
 {}
 
-/// `MOST_DECIMALS`, by which callers name the greatest number of decimals to which a number is
-/// rounded, equals the number that contracts name `most_decimals`: 8 (GAMS User's Guide, "The
-/// Display Statement").
+/// The constant `MOST_DECIMALS` of the code equals `most_decimals` of the contracts: 8, the
+/// greatest number of decimals to which a number is rounded (GAMS User's Guide, "The Display
+/// Statement").
 pub fn limit_laws()
     ensures { MOST_DECIMALS ≡ most_decimals }
 {}

@@ -6,15 +6,14 @@ use crate::literal::literal;
 use crate::parts::{read_exponent, split_pointed};
 use gq_field::ExactField;
 
-/// The number that a decimal's text means: digits with or without a point, at least one digit, and
-/// perhaps an exponent, which is `e` or `E`, perhaps a sign, and digits (GAMS User's Guide,
-/// "Language Items").
+/// The number that a decimal's text means. The text is one or more digits, perhaps with a point
+/// before, between or after them. An exponent may follow: `e` or `E`, perhaps `+` or `-`, and at
+/// least one digit (GAMS User's Guide, "Language Items").
 ///
-/// The error `Shape` comes exactly if the text does not have this form; a text that has it means a
-/// number. Let m times 10^e be this number, where m is a whole number that does not end in 0. The
-/// number fits if the product, for e from 0 on, or both m and 10^-e, for e below 0, are at most the
-/// field's limit; 0 always fits. The error `Limit` comes exactly if the number does not fit,
-/// however it is written.
+/// The error is `Shape` exactly if the text does not have this form. A number other than 0 is m
+/// times 10^e, where the integer m does not end in 0. For e at least 0 it fits if it is at most the
+/// field's limit; for e below 0, if both m and 10^-e are. 0 fits. The error is `Limit` exactly if
+/// the text has this form and its number does not fit.
 pub fn read_decimal<F: ExactField>(text: &[u8]) -> Result<F, NumberFault>
     ensures { ReadsLiteral F.limit F.value text.now result }
 {

@@ -7,15 +7,15 @@ use crate::digits::Digits;
 use crate::division::rounded;
 use gq_field::ExactField;
 
-/// The greatest number of decimals to which a number is rounded.
+/// The most decimals to which a number may be rounded.
 pub const MOST_DECIMALS: u8 = 8;
 
-/// Replaces the text of `into` by the number `v` rounded to `decimals` decimals, at most 8; a
-/// number halfway between two is rounded away from 0.
+/// Replaces the text of `into` by the number `v` rounded to `decimals` decimals, halves away from
+/// 0. `decimals` must be at most 8.
 ///
-/// The text is the whole part without leading zeros (`0` if it is 0), a point and exactly
-/// `decimals` digits; if `decimals` is 0, there is no point. `-` precedes the text of a number
-/// below 0 if some digit is not 0 (GAMS User's Guide, "The Display Statement").
+/// A `-` comes first if `v` is below 0 and is not rounded to 0; then the rounded number's integer
+/// part, without sign or leading zeros (`0` if it is 0). If `decimals` is above 0, a point and
+/// exactly `decimals` digits follow (GAMS User's Guide, "The Display Statement").
 pub fn put_rounded<F: ExactField>(v: F, decimals: u8, into: &mut Digits)
     requires { decimals ≤ most_decimals }
     ensures { IsRoundedText decimals (F.value v) into.new }
@@ -29,8 +29,8 @@ pub fn put_rounded<F: ExactField>(v: F, decimals: u8, into: &mut Digits)
 }
 
 /// Replaces the text of `into` by the exact text of the number `v`: the numerator of its reduced
-/// fraction, followed, if the denominator is not 1, by `/` and the denominator. `-` precedes the
-/// text of a number below 0.
+/// fraction, followed, if the denominator is not 1, by `/` and the denominator. A `-` comes first
+/// if `v` is below 0.
 pub fn put_exact<F: ExactField>(v: F, into: &mut Digits)
     ensures exact { IsExactText (F.value v) into.new }
     ensures text { into.new ≡ exact_text (F.value v) }
