@@ -33,11 +33,12 @@ rule_at place =
     rule_after (member.Steepest ∷ member.Shortest ∷ member.GainForBits ∷ member.ShortInRow ∷ member.ShortInBoth ∷ member.Largest ∷ member.Bland ∷ []) place
 
 module _ {F : Type 0} (value : F → Number) (limit : ℕ) where
-  -- An answer of the program by one of the rules, with at most `iterlim` pivots. After a long run
-  -- of degenerate pivots Bland's rule picks the entering variable, to the end of the phase. Before
-  -- that, Steepest admits any improving variable, Largest one with the greatest coefficient, Bland
-  -- the one of Bland's rule, and each other rule the cheapest by the costs of that rule. `limit`
-  -- bounds the size of numbers, and `value` gives the number that a value of `F` means.
+  -- An answer of the program by one of the rules, with at most `iterlim` pivots. After as many
+  -- successive degenerate pivots in a phase as there are variables, variable 0 included, Bland's
+  -- rule picks the entering variable, to the end of the phase. Before that, Steepest admits any
+  -- improving variable, Largest one with the greatest coefficient, Bland the one of Bland's rule,
+  -- and each other rule the cheapest by the costs of that rule. `limit` bounds the size of numbers,
+  -- and `value` gives the number that a value of `F` means.
   abbrev pub IsAnswerOf : Member → Lp F → ℕ → Answer F → Type 0
   IsAnswerOf member.Steepest lp iterlim answer = IsTurningAnswer value limit Improves lp iterlim answer
   IsAnswerOf member.Shortest lp iterlim answer = IsTurningAnswer value limit (IsCheapest (IsCostBy limit LengthAt)) lp iterlim answer

@@ -16,16 +16,17 @@ factor shuffle = (2 * shuffle + 1) * 2654435761 % 2 ^ 32
 abbrev pub handicap : ℕ → ℕ → ℕ
 handicap shuffle v = v * factor shuffle % 2 ^ 32 / 268435456
 
--- the cost of a pivot: the bits of the numerator of the pivot `number` plus the variable's
--- handicap, less twice the bits of the gain, which is `coefficient` times `constant` over `number`
--- (`gain_above` less `gain_below`), plus 2000; 0 if this is negative
+-- the cost of a pivot: the bits of the numerator of the pivot `number` plus `handicap`, an extra
+-- cost of the entering variable, less twice the bits of the gain, which is `coefficient` times
+-- `constant` over `number` (`gain_above` less `gain_below`), plus 2000; 0 if this is negative
 abbrev pub cost_with_handicap : Number → Number → Number → ℕ → ℕ
 cost_with_handicap coefficient constant number handicap =
     2000 + bits (nat_abs number.numerator) + handicap + 2 * gain_below coefficient constant number - 2 * gain_above coefficient constant number
 
--- n is the cost by this shuffle of v, which pivots in row k: by the gain, the pivot number's
--- numerator and the handicap of v. j is the priced row: that of variable 0 while it is basic, else
--- the objective
+-- n is the cost of the pivot in which v enters and the variable of row k leaves
+-- (`cost_with_handicap`): from v's entry in row j, the constant of row k, v's entry in row k, and
+-- v's handicap, an extra cost by the shuffle. j is the priced row: of variable 0 while it is basic,
+-- else the objective
 abbrev pub ShuffledAt : ℕ → Dictionary → ℕ → ℕ → ℕ → Type 0
 ShuffledAt shuffle d v k n =
     (j : ℕ) × IsPriced d j × (n ≡ cost_with_handicap (entry_at d j v) (constant_at d k) (entry_at d k v) (handicap shuffle v))

@@ -22,19 +22,17 @@ fn is_refused<F: ExactField>(end: &End<F>) -> bool
     }
 }
 
-/// The answer of a program by the first of several rules whose answer is not Refused, each with at
-/// most `iterlim` pivots; if all are Refused, the answer by Bland's rule: Chvatal, Linear
-/// Programming, chapters 2 and 3.
+/// The answer of the well-formed linear program `lp` by the first of 23 rules whose answer is not
+/// Refused; if all are Refused, the answer by Bland's rule, one of the 23 (Chvatal, Linear
+/// Programming, chapters 2 and 3). The answer has only the pivots of the rule that gives it.
 ///
-/// An answer is Refused if a step computes a numerator or a denominator beyond the limit of the
-/// field. Numbers grow along the pivots, and another sequence of pivots may keep them within the
-/// limit. The answer is Refused only if the answer of each rule is Refused. The answer has only the
-/// pivots of the rule that gives it. Each rule turns to Bland's rule, to the end of the phase,
-/// after as many successive degenerate pivots as there are variables. Let v be the number of
-/// variables of the standard form, slacks and variable 0 included. There are fewer than
-/// `2 * 2^v * (v + 1)` pivots. If `iterlim` is at least this bound, the end is not Interrupted,
-/// which is the end after exactly `iterlim` pivots if a further one is required. The error is out
-/// of memory.
+/// An answer is Refused if a step computes a numerator or a denominator above `F.limit`. The pivots
+/// of another rule may keep the numbers within the limit. An answer is Interrupted if its rule
+/// requires a pivot after `iterlim` pivots by this rule. Let v be the number of variables of the
+/// standard form, slacks and the artificial variable 0 included. Each rule turns to Bland's rule,
+/// to the end of the phase, after v successive degenerate pivots. So an answer has fewer than
+/// `2 * 2^v * (v + 1)` pivots, and is not Interrupted if `iterlim` is at least this bound. The
+/// error is out of memory.
 pub fn solve_in<F: ExactField>(
     alloc: Global,
     lp: &Lp<F>,

@@ -17,9 +17,9 @@ use lp_slot::{LpSolver, SolverRule};
 use std::alloc::{AllocError, Global};
 use std::marker::Model;
 
-/// The solver that tries several rules in sequence. It gives the first answer that is not Refused,
-/// with the pivots of this answer; if all are Refused, it gives the answer by Bland's rule. An
-/// answer is Refused if a step computes a numerator or a denominator beyond the limit of the field.
+/// The solver that tries 23 rules in sequence. It gives the first answer that is not Refused or, if
+/// all are Refused, the answer by Bland's rule. An answer is Refused if a step computes a numerator
+/// or a denominator above 2^127 - 1. `taken` has the pivots of each answer so far.
 #[derive(Drop)]
 pub struct Any {
     taken: Vec<Sequence<Pivot>>,
@@ -65,11 +65,11 @@ impl LpSolver for Any {
     }
 
     /// The answer of a program by the first rule whose answer is not Refused. It is Refused only if
-    /// that of each rule is, Bland's included. Each rule turns to Bland's rule, to the end of the
-    /// phase, after as many successive degenerate pivots as there are variables. There are fewer
-    /// than `2 * 2^v * (v + 1)` pivots, where v is the number of variables of the standard form,
-    /// slacks and variable 0 included. If `iterlim` is at least this bound, the end is not
-    /// Interrupted, which is the end after exactly `iterlim` pivots if a further one is required.
+    /// that of each rule is, Bland's included. Let v be the number of variables of the standard
+    /// form, slacks and variable 0 included. Each rule turns to Bland's rule, to the end of the
+    /// phase, after v successive degenerate pivots. There are fewer than `2 * 2^v * (v + 1)`
+    /// pivots. If `iterlim` is at least this bound, the end is not Interrupted, which is the end
+    /// after exactly `iterlim` pivots if a further one is required.
     fn solve(
         &mut self,
         alloc: Global,

@@ -13,9 +13,8 @@ use lp_core::{Answer, Lp};
 use lp_simplex::solve_with;
 use std::alloc::{AllocError, Global};
 
-/// A rule by which the solver `any` tries to find an answer. All but Steepest, Largest and Bland
-/// compare the pivots that the improving variables would make, and choose the entering variable by
-/// them.
+/// A rule for the entering variable in the solver `any`. All but Steepest, Largest and Bland
+/// compare the pivots of the improving variables, and pick the variable whose pivot costs least.
 #[derive(Clone, Copy)]
 pub enum Member {
     /// Steepest edge, where an edge's length counts only the rows that limit the entering variable.
@@ -59,13 +58,13 @@ pub(crate) fn rule_at(place: u8) -> Member
     }
 }
 
-/// The answer of a program by the rule `member`, found by at most `iterlim` pivots: Chvatal, Linear
-/// Programming, chapters 2 and 3. Each rule turns to Bland's rule, to the end of the phase, after
-/// as many successive degenerate pivots as there are variables. Let v be the number of variables of
-/// the standard form, slacks and variable 0 included. There are fewer than `2 * 2^v * (v + 1)`
-/// pivots. If `iterlim` is at least this bound, the end is not Interrupted, which is the end after
-/// exactly `iterlim` pivots if a further one is required. An answer is Refused if a step computes a
-/// numerator or a denominator beyond the limit of the field. The error is out of memory.
+/// An answer of the well-formed linear program `lp` by the rule `member`: Chvatal, Linear
+/// Programming, chapters 2 and 3. Let v be the number of variables of the standard form, slacks and
+/// the artificial variable 0 included. Each rule turns to Bland's rule, to the end of the phase,
+/// after v successive degenerate pivots. The answer is Interrupted if a pivot is required after
+/// `iterlim` pivots. It has fewer than `2 * 2^v * (v + 1)` pivots, and is not Interrupted if
+/// `iterlim` is at least this bound. It is Refused if a step computes a numerator or a denominator
+/// above `F.limit`. The error is out of memory.
 pub fn answer_of<F: ExactField>(
     alloc: Global,
     lp: &Lp<F>,

@@ -18,10 +18,10 @@ use std::alloc::{AllocError, Global};
 use std::marker::Model;
 
 /// The solver by steepest edge: Goldfarb and Reid, "A practicable steepest-edge simplex algorithm".
-/// The length of an edge counts only the rows that limit how far the entering variable rises. Of
+/// The length of a variable's edge counts only the rows that limit the rise of this variable. Of
 /// the variables that tie in the ratio test the one with the least number leaves. After as many
-/// successive degenerate pivots as there are variables the solver uses Bland's rule, which does not
-/// cycle, to the end of the phase.
+/// successive degenerate pivots of a phase as there are variables, slacks and the artificial
+/// variable 0 included, Bland's rule, which does not cycle, picks until the phase ends.
 #[derive(Drop)]
 pub struct Steepest {
     taken: Vec<Sequence<Pivot>>,

@@ -13,18 +13,19 @@ use lp_core::{Answer, Lp};
 use lp_simplex::solve_with;
 use std::alloc::{AllocError, Global};
 
-/// An answer of a program by steepest edge, found by at most `iterlim` pivots: Goldfarb and Reid,
-/// "A practicable steepest-edge simplex algorithm"; Chvatal, Linear Programming, chapters 2 and 3.
-/// The length of an edge counts only the rows that limit how far the entering variable rises.
+/// An answer of the well-formed linear program `lp` by steepest edge: Goldfarb and Reid, "A
+/// practicable steepest-edge simplex algorithm"; Chvatal, Linear Programming, chapters 2 and 3. The
+/// length of a variable's edge counts only the rows that limit the rise of this variable.
 ///
-/// Of the variables that tie in the ratio test the one with the least number leaves. After as many
-/// successive degenerate pivots as there are variables, Bland's rule takes over to the end of the
-/// phase (the turn). Optimal, Infeasible and Unbounded come with their certificates. Interrupted is
-/// the end after exactly `iterlim` pivots if a further pivot is required. Refused has the first
-/// step that computes a numerator or a denominator beyond the limit of the field. Let v be the
-/// number of variables of the standard form, slacks and variable 0 included. There are fewer than
-/// `2 * 2^v * (v + 1)` pivots. If `iterlim` is at least this bound, the end is not Interrupted. No
-/// contract states which improving variable enters before the turn. The error is out of memory.
+/// Let v be the number of variables of the standard form, slacks and the artificial variable 0
+/// included. Of the variables that tie in the ratio test the one with the least number leaves.
+/// After v successive degenerate pivots of one phase, Bland's rule picks the entering variable
+/// until the phase ends. No contract states which improving variable enters before that. Optimal,
+/// Infeasible and Unbounded come with their certificates. The end is Interrupted if a pivot is
+/// required after `iterlim` pivots. There are fewer than `2 * 2^v * (v + 1)` pivots; so if
+/// `iterlim` is at least this, the end is not Interrupted. The end is Refused if a step computes a
+/// numerator or a denominator above `F.limit`, and has the first such step. The error is out of
+/// memory.
 pub fn solve_in<F: ExactField>(
     alloc: Global,
     lp: &Lp<F>,

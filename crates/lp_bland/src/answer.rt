@@ -14,9 +14,8 @@ use lp_dict::Dict;
 use lp_simplex::{Choosing, solve_by};
 use std::alloc::{AllocError, Global};
 
-/// Bland's choice of the entering variable: of the variables that improve the objective of the
-/// phase, the one with the least number. The choice depends on the dictionary alone, not on the
-/// pivots so far.
+/// Bland's choice of the entering variable: of the variables that improve the phase's objective,
+/// the one with the least number. Only the dictionary decides the choice, not the pivots before it.
 #[derive(Drop)]
 pub struct Least;
 
@@ -38,15 +37,14 @@ impl<F: ExactField> Choosing<F> for Least {
     ghost improving = { λ _ _ _ d q chosen. least_improves d q chosen };
 }
 
-/// The only answer of a program under Bland's rule, found by at most `iterlim` pivots: Bland, "New
-/// finite pivoting rules for the simplex method"; Chvatal, Linear Programming, chapter 3.
+/// The only answer of a program under Bland's rule, with at most `iterlim` pivots (Bland, "New
+/// finite pivoting rules for the simplex method"; Chvatal, Linear Programming, chapter 3).
 ///
-/// An answer whose end is Optimal, Infeasible or Unbounded has a certificate of this end.
-/// Interrupted is the end after exactly `iterlim` pivots if a further one is required. Refused has
-/// the first step that computes a numerator or a denominator beyond the limit of the field. There
-/// are fewer than `2 * 2^v` pivots, where v is the number of variables of the standard form, slacks
-/// and variable 0 included. So the end is not Interrupted if `iterlim` is at least `2 * 2^v`. The
-/// only error is out of memory.
+/// An end Optimal, Infeasible or Unbounded has a certificate. Interrupted is the end after exactly
+/// `iterlim` pivots if a further one is required. Refused has the first step that computes a
+/// numerator or a denominator beyond the limit of the field. Let v be the number of variables of
+/// the standard form, slacks and variable 0 included. There are fewer than `2 * 2^v` pivots. If
+/// `iterlim` is at least this bound, the end is not Interrupted. The only error is out of memory.
 pub fn solve_in<F: ExactField>(
     alloc: Global,
     lp: &Lp<F>,

@@ -16,9 +16,9 @@ use lp_slot::{LpSolver, SolverRule};
 use std::alloc::{AllocError, Global};
 use std::marker::Model;
 
-/// The solver by Bland's rule: of the variables that improve the objective, the one with the least
-/// number enters, and of those that tie in the ratio test, the one with the least number leaves.
-/// Contracts view the solver as a list that has, for each answer so far, the list of its pivots.
+/// The solver by Bland's rule. Of the variables that improve the phase's objective, the one with
+/// the least number enters; of those with the least ratio, the one with the least number leaves.
+/// Contracts view the solver as a list with the list of pivots of each answer that it gave.
 #[derive(Drop)]
 pub struct Bland {
     taken: Vec<Sequence<Pivot>>,

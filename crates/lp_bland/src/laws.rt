@@ -17,23 +17,23 @@ ghost use Rattle.lp_bland.specs.Ends.{IsRefusedEnd};
 
 use gq_field::ExactField;
 
-/// A program over a field has at most one answer under Bland's rule and a limit of pivots. The
-/// program and the limit of pivots determine the pivots, the end and each number of the end.
+/// For each limit of pivots a well-formed program has at most one answer under Bland's rule: the
+/// program and the limit determine the answer's pivots, kind of end and values.
 pub fn one_answer<F: ExactField>()
     ensures { (lp : Lp F) (iterlim : ℕ) (a b : Answer F) → IsWellFormed F.value lp →
         IsAnswer F.value F.limit lp iterlim Bland a → IsAnswer F.value F.limit lp iterlim Bland b → a ≡ b }
 {}
 
-/// A program has an answer under Bland's rule and any limit of pivots, and by `one_answer` exactly
-/// one.
+/// For each limit of pivots a well-formed program has an answer under Bland's rule, and by
+/// `one_answer` exactly one.
 pub fn an_answer<F: ExactField>()
     ensures { (lp : Lp F) (iterlim : ℕ) → IsWellFormed F.value lp →
         (answer : Answer F) × IsAnswer F.value F.limit lp iterlim Bland answer }
 {}
 
-/// Let `narrow`, with numbers of 63 bits, and `wide`, with numbers of 127 bits, be the same
-/// program. Then an answer of `narrow` under Bland's rule whose end is not Refused is, with its
-/// numbers widened, an answer of `wide` under Bland's rule and the same limit of pivots.
+/// Let `narrow` and `wide` be the same well-formed program, with numerators and denominators in 63
+/// and 127 bits. Then an answer of `narrow` under Bland's rule whose end is not Refused is, in 127
+/// bits, an answer of `wide` under Bland's rule and the same limit of pivots.
 pub fn wide_answers()
     ensures { (narrow : Lp Half) (wide : Lp Frac) (iterlim : ℕ) (a : Answer Half) (b : Answer Frac) →
         lp_numbers half_value narrow ≡ lp_numbers frac_value wide →
@@ -41,9 +41,9 @@ pub fn wide_answers()
         IsAnswer half_value (2 ^ 63 - 1) narrow iterlim Bland a → IsAnswer frac_value frac_limit wide iterlim Bland b }
 {}
 
-/// Let each value of a field, in a program and in an answer of it, be replaced by the number that
-/// it means. Then the answer is one of the program over the rational numbers, by the same rule and
-/// limit of pivots, where each step has to fit under the field's limit as before.
+/// Let a well-formed program have an answer. If in both each value of the field `F` is replaced by
+/// the rational number that it means, the answer is still one of the program, under the same rule,
+/// limit of pivots, and limit of numerators and denominators.
 pub fn answers_over_numbers<F: ExactField>()
     ensures { (lp : Lp F) (iterlim : ℕ) (rule : Rule) (answer : Answer F) → IsWellFormed F.value lp →
         IsAnswer F.value F.limit lp iterlim rule answer →

@@ -139,8 +139,8 @@ fn narrowed(alloc: Global, lp: &Lp<Frac>) -> Result<Lp<Half>, Wide>
     })
 }
 
-/// The same program with numbers of 63 bits instead of 127. The result is well formed if `lp` is.
-/// `None` exactly if the numerator or the denominator of some number of `lp` exceeds 2^63 - 1 in
+/// The same program, with numerators and denominators in 63 bits instead of 127; well formed if
+/// `lp` is. `None` exactly if a numerator or denominator of a number of `lp` exceeds 2^63 - 1 in
 /// magnitude. The only error is out of memory.
 pub fn narrow_lp(alloc: Global, lp: &Lp<Frac>) -> Result<Option<Lp<Half>>, AllocError>
     ensures same { IfOk result (λ found. IfSome found (λ narrow. lp_numbers half_value narrow ≡ lp_numbers frac_value lp.now)) }

@@ -62,8 +62,8 @@ fn widen_end(alloc: Global, end: &End<Half>) -> Result<End<Frac>, AllocError>
     }
 }
 
-/// The same answer with numbers of 127 bits instead of 63: it has the same pivots, kind of end and
-/// numbers, and the same step that did not fit, if any. The only error is out of memory.
+/// The same answer with numbers of 127 bits instead of 63: the pivots, the end and the values are
+/// the same. The only error is out of memory.
 pub fn widen_answer(alloc: Global, a: &Answer<Half>) -> Result<Answer<Frac>, AllocError>
     ensures { IfOk result (λ made. answer_numbers frac_value made ≡ answer_numbers half_value a.now) }
 {

@@ -53,7 +53,7 @@ bound_by_sign Less first second = second
 abbrev pub bound_used : Number → Option Number → Option Number → Option Number
 bound_used factor first second = bound_by_sign (number_cmp factor (whole (pos 0))) first second
 
--- the coefficient of column j in these entries; None without an entry of j
+-- the coefficient in the first of these entries that is of column j; None without an entry of j
 abbrev pub entry_of : {F : Type 0} → (F → Number) → List (ℕ × F) → ℕ → Option Number
 entry_of value [] j = None
 entry_of value (e ∷ entries) j = if e.0 == j then Some (value e.1) else entry_of value entries j
@@ -84,53 +84,55 @@ rows_sum value above s (row ∷ rows) [] = s
 rows_sum value above s (row ∷ rows) (y ∷ duals) = rows_sum value above (plus_product s y (row_bound value above row y)) rows duals
 
 -- the sum s plus, for each of these columns, its reduced cost (`reduced`, by the number of the
--- column) times the bound of the column that this cost uses, for an upper bound of the objective if
--- `above`, else for a lower one; the first column has number j
+-- column) times the bound of the column that this cost uses (nothing without such a bound), for an
+-- upper bound of the objective if `above`, else for a lower one; the first column has number j
 abbrev pub columns_sum : {F : Type 0} → (F → Number) → Bool → (ℕ → Number) → Number → ℕ → List (Column F) → Number
 columns_sum value above reduced s j [] = s
 columns_sum value above reduced s j (column ∷ columns) =
     columns_sum value above reduced (plus_product s (reduced j) (column_bound value above column (reduced j))) (j + 1) columns
 
 module _ {F : Type 0} (value : F → Number) (limit : ℕ) where
-  -- whether each step fits under the limit that subtracts from s, row by row, the dual times the
-  -- entry of column j (a nonbinding row has none); s is the column's cost less what is subtracted
-  -- so far
+  -- Row by row, the dual times the row's entry of column j is subtracted from s, the column's cost
+  -- less what is subtracted so far. For each product and each difference: whether its integers are
+  -- at most `limit` in magnitude. A row that is nonbinding, or without an entry of j, has no steps.
   abbrev pub reduced_cost_bound_steps : ℕ → Number → List (Row F) → List Number → List Bool
   reduced_cost_bound_steps j s [] duals = []
   reduced_cost_bound_steps j s (row ∷ rows) [] = []
   reduced_cost_bound_steps j s (row ∷ rows) (y ∷ duals) =
       less_steps limit s y (entry_in value j row) ++ reduced_cost_bound_steps j (less_product s y (entry_in value j row)) rows duals
 
-  -- whether each step fits under the limit that computes the reduced costs of these columns from
-  -- their costs (`costs`, by the number of the column); the first column has number j
+  -- whether each step that computes the reduced costs of these columns from their costs (`costs`,
+  -- by the number of the column) fits under the limit on the size of numbers; the first column has
+  -- number j
   abbrev pub all_reduced_steps : (ℕ → Number) → List (Row F) → List Number → ℕ → List (Column F) → List Bool
   all_reduced_steps costs rows duals j [] = []
   all_reduced_steps costs rows duals j (column ∷ columns) =
       reduced_cost_bound_steps j (costs j) rows duals ++ all_reduced_steps costs rows duals (j + 1) columns
 
-  -- whether each step fits under the limit that adds to the sum s, row by row, the dual times the
-  -- bound of the row's sum that the dual uses, for an upper bound of the objective if `above`, else
-  -- for a lower one
+  -- Row by row, the dual times the bound of the row's sum that the dual uses is added to s, for an
+  -- upper bound of the objective if `above`, else for a lower one. The result says for each product
+  -- and each sum whether its integers are at most `limit` in magnitude. A row without such a bound
+  -- has no steps
   abbrev pub row_bound_steps : Bool → Number → List (Row F) → List Number → List Bool
   row_bound_steps above s [] duals = []
   row_bound_steps above s (row ∷ rows) [] = []
   row_bound_steps above s (row ∷ rows) (y ∷ duals) =
       plus_steps limit s y (row_bound value above row y) ++ row_bound_steps above (plus_product s y (row_bound value above row y)) rows duals
 
-  -- whether each step fits under the limit that adds to the sum s, column by column, the reduced
-  -- cost (`reduced`, by the number of the column) times the bound of the column that this cost
-  -- uses, for an upper bound of the objective if `above`, else for a lower one; the first column
-  -- has number j
+  -- Column by column, the reduced cost (`reduced j`) times the bound of the column that this cost
+  -- uses is added to s, for an upper bound of the objective if `above`, else for a lower one; no
+  -- steps without such a bound. For each product and each sum: whether its integers are at most
+  -- `limit` in magnitude. The first column has number j.
   abbrev pub columns_steps : Bool → (ℕ → Number) → Number → ℕ → List (Column F) → List Bool
   columns_steps above reduced s j [] = []
   columns_steps above reduced s j (column ∷ columns) =
       plus_steps limit s (reduced j) (column_bound value above column (reduced j))
       ++ columns_steps above reduced (plus_product s (reduced j) (column_bound value above column (reduced j))) (j + 1) columns
 
-  -- whether each step fits under the limit that computes an upper bound (if `above`) or a lower
-  -- bound of the sum of each column's cost times its value, from the duals: first the reduced
-  -- costs, then the rows' terms (a dual times the bound that it uses), then the columns' (a reduced
-  -- cost times the bound that it uses); `costs` is by the number of the column
+  -- for each step, whether its integers are at most `limit` in magnitude. From the duals the steps
+  -- compute an upper (if `above`) or a lower bound of the sum of cost times value over the columns:
+  -- first the reduced costs, then each row's dual times the bound that it uses, then each column's
+  -- reduced cost times the bound that it uses. Column j has the cost `costs j`
   abbrev pub steps_of_bound : Bool → (ℕ → Number) → Lp F → List Number → List Bool
   steps_of_bound above costs lp duals =
       all_reduced_steps costs lp.rows duals 0 lp.columns
@@ -138,15 +140,15 @@ module _ {F : Type 0} (value : F → Number) (limit : ℕ) where
       ++ columns_steps above (reduced_cost value lp costs duals) (rows_sum value above (whole (pos 0)) lp.rows duals) 0 lp.columns
 
   -- the steps that compute from the duals the bound of the objective (true), or a lower bound of
-  -- the sum of each column's cost times its value with each cost 0 (false), numbered from 0, each
-  -- with whether it fits
+  -- the objective with each cost replaced by 0 (false), numbered from 0, each with whether it fits
+  -- under the limit of the size of numbers
   abbrev pub bound_steps : Bool → Lp F → List Number → List ExpectedStep
   bound_steps true lp duals = map (λ (p : ℕ × Bool). (Check p.0, p.1)) (enumerate_from 0 (steps_of_bound lp.maximize (objective_costs lp) lp duals))
   bound_steps false lp duals = map (λ (p : ℕ × Bool). (Check p.0, p.1)) (enumerate_from 0 (steps_of_bound false no_costs lp duals))
 
--- the bound that the duals give of the objective (true), or their lower bound of the sum of each
--- column's cost times its value with each cost 0 (false); None if they use a bound of a row or a
--- column that does not exist
+-- with true, the bound of the objective that the duals prove: an upper one when maximizing, else a
+-- lower one; with false, the lower one that they prove of the objective whose costs are all 0. None
+-- if the duals use a lower or upper limit that a row or a column does not have
 abbrev pub objective_bound : {F : Type 0} → (F → Number) → Bool → Lp F → List Number → Option Number
 objective_bound value true lp duals = dual.dual_bound value lp duals
 objective_bound value false lp duals = dual.low value lp no_costs duals

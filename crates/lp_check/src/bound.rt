@@ -82,20 +82,20 @@ fn bound_over<F: ExactField>(
 
 /// The bound of the objective that `duals`, a factor for each row, give. If `with_objective` is
 /// false, the objective is the number 0, minimized. The bound is a sum: for each row the dual times
-/// a bound of the row's sum, and for each column the reduced cost times a bound of the column. The
-/// sign of the factor determines whether this is the lower or the upper bound, and a factor of 0
-/// uses none. Each bound that is used must exist.
+/// a bound of the row's sum, and for each column the reduced cost times a bound of the column. When
+/// minimizing, a dual or reduced cost above 0 uses the lower bound, and one below 0 the upper; when
+/// maximizing, the reverse. One that is 0 uses no bound. Each bound that is used must exist.
 ///
-/// When minimizing, the bound is at most the objective's value at each feasible point; when
-/// maximizing, at least. If there is a feasible point, the bound of the number 0 is at most 0. The
-/// error is `Check`, the first step that computes a numerator or a denominator beyond the limit of
-/// the field. The steps are, column by column, those of the reduced cost over the rows that have an
-/// entry of the column and are not `=n=`; then, row by row and column by column, those of the terms
-/// of the sum. Each entry or term has two steps, a product and then a sum or a difference. Chvatal,
-/// Linear Programming, chapters 5 and 9.
+/// When minimizing, the result is at most the objective's value at each feasible point; when
+/// maximizing, at least. If `with_objective` is false and a point is feasible, the result is at
+/// most 0. The error is `Check` with the number, from 0, of the first step that computes an integer
+/// above the field's limit in magnitude. The steps of the reduced costs come first, column by
+/// column: for each entry of the column in a row that is not `=n=`, a product and a difference.
+/// Then come the terms of the sum, all rows before all columns: for each bound that is used, a
+/// product and a sum. Chvatal, Linear Programming, chapters 5 and 9.
 ///
-/// Each entry is visited once if all steps fit and there is memory for the reduced costs; otherwise
-/// each column is looked for in each row.
+/// Out of memory is no error: without memory for the reduced costs, each column is looked for in
+/// each row.
 pub fn dual_bound<F: ExactField>(
     alloc: Global,
     lp: &Lp<F>,

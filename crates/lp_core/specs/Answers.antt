@@ -28,9 +28,9 @@ EndsUnformed value limit lp end =
     FirstCrossed value lp.columns None × ((step : StepName) × (end ≡ Refused step) × FirstStop (standard_steps value limit lp) step)
 
 module _ {F : Type 0} (value : F → Number) (limit : ℕ) (lp : Lp F) (iterlim : ℕ) where
-  -- An answer of a program under `iterlim`, a limit of pivots. `Allowed` says which pivots may be
-  -- made, each with the row of its leaving variable, and `Chosen` which variables may enter; both
-  -- depend on the pivots so far and the dictionary they lead to. A step fits if no numerator or
+  -- An answer of the linear program `lp` with at most `iterlim` pivots. `Allowed` says which pivots
+  -- may be made, each with the row of its leaving variable, `Chosen` which variables may enter,
+  -- both by the pivots so far and the dictionary they lead to. A step fits if no numerator or
   -- denominator that it computes exceeds `limit`.
   pub data IsAnswerBy (Allowed : List Pivot → Dictionary → Pivot → ℕ → Type 0) (Chosen : List Pivot → Dictionary → ℕ → Type 0) (answer : Answer F) : Type 0 where
     -- the bounds of a column cross
@@ -48,9 +48,9 @@ module _ {F : Type 0} (value : F → Number) (limit : ℕ) (lp : Lp F) (iterlim 
   abbrev pub IsAnswer : Rule → Answer F → Type 0
   IsAnswer rule answer = IsAnswerBy (ByRule rule) (λ done d. IsChosen rule d) answer
 
-  -- An answer in which `choice` says which variables may enter. It depends on the first dictionary,
-  -- the pivots so far, and the dictionary they lead to. Of the variables that may leave, the one
-  -- with the least number leaves.
+  -- An answer in which `choice` says which variables may enter. `choice` depends on the first
+  -- dictionary, the pivots so far, and the dictionary they lead to. Of the variables that may
+  -- leave, the one with the least number leaves.
   abbrev pub IsAnswerByChoice : (Dictionary → List Pivot → Dictionary → ℕ → Type 0) → Answer F → Type 0
   IsAnswerByChoice choice answer =
       let first : Dictionary = first_dictionary (standard_form value lp) in

@@ -117,7 +117,8 @@ pub record Improves (d : Dictionary) (v : ℕ) : Type 0 where
 abbrev pub Limits : Dictionary → ℕ → ℕ → Type 0
 Limits d q k = (k < length d.basic) × (whole (pos 0) <ℚ entry_at d k q)
 
--- how far row k lets variable q rise: the row's constant over its coefficient of q
+-- how far row k lets variable q rise, if its coefficient of q is above 0: the row's constant over
+-- this coefficient. The row states that the sum of its terms equals its constant
 abbrev pub ratio_at : Dictionary → ℕ → ℕ → Number
 ratio_at d q k = constant_at d k /ℚ entry_at d k q
 
@@ -140,8 +141,8 @@ pub record IsOpening (d : Dictionary) (p : Pivot) (k : ℕ) : Type 0 where
   pub least : IsLeast d k
 
 -- A pivot at a dictionary without a constant below 0: an improving variable enters, and the
--- variable of row k leaves, which ties in the ratio test. If the row of variable 0 ties, variable 0
--- leaves.
+-- variable of row k leaves. Row k has the least ratio in the ratio test (`Ties`). If the row of
+-- variable 0 has the least ratio too, variable 0 leaves.
 pub record IsStep (d : Dictionary) (p : Pivot) (k : ℕ) : Type 0 where
   pub not_required : ¬ (OpeningIsRequired d)
   pub improves : Improves d p.enter
@@ -184,9 +185,9 @@ exchanged d q k =
 -- ---- dictionaries of a program
 
 -- The invariant of each dictionary of a program: the basic variables are distinct variables of the
--- dictionary, and each occurs in its own row alone, with coefficient 1. If the opening pivot is
--- required, variable 0 has coefficient -1 in each row. While variable 0 is basic, its constant is
--- above 0.
+-- dictionary. Each has coefficient 1 in its own row, and 0 in the other rows and in the objective.
+-- If some constant is below 0, variable 0 has coefficient -1 in each row, except perhaps in the
+-- objective. While variable 0 is basic, the constant of its row is above 0.
 pub record IsProper (d : Dictionary) : Type 0 where
   pub distinct : (i j v : ℕ) → slice_get d.basic i ≡ Some v → slice_get d.basic j ≡ Some v → i ≡ j
   pub there : (k v : ℕ) → slice_get d.basic k ≡ Some v → v ≤ d.variables
@@ -199,10 +200,10 @@ pub record IsProper (d : Dictionary) : Type 0 where
 abbrev pub HasZero : Dictionary → Type 0
 HasZero d = InPhaseOne d ⊎ OpeningIsRequired d
 
--- A dictionary of a standard form. Its basic variables are variables of the form, and each occurs
--- in its own row alone. The values that satisfy it are those that satisfy the first dictionary,
--- with the same objective; if variable 0 is not in use (`HasZero`), this holds for values with 0 at
--- variable 0. While variable 0 is basic and no opening pivot is required, its constant is above 0.
+-- A dictionary of a standard form. Its basic variables are variables of the form, each with
+-- coefficient 1 in its own row, 0 elsewhere. The same values satisfy it, with the same objective,
+-- as the first dictionary; if variable 0 is not in use (`HasZero`), this holds for values with 0 at
+-- variable 0. If variable 0 is basic and no constant is below 0, that of its row is above 0.
 pub record IsDictionaryOf (s : Standard) (d : Dictionary) : Type 0 where
   pub variables : d.variables ≡ length s.objective + length s.rows
   pub sized : length d.basic ≡ length s.rows

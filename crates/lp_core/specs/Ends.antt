@@ -19,12 +19,12 @@ use Rattle.lp_core.specs.Steps.{AllFit, FirstStop, ratio_steps, exchange_steps, 
 use Rattle.lp_core.specs.Pivots.{IsChosen, NothingImproves, TestFits, last_of, last_along}
 
 -- q is a variable that may enter (`Chosen`) and that no row limits, at a dictionary where the
--- opening pivot is not required
+-- opening pivot of phase 1, in which variable 0 enters, is not required
 abbrev pub IsUnlimitedBy : (ℕ → Type 0) → Dictionary → ℕ → Type 0
 IsUnlimitedBy Chosen d q = ¬ (OpeningIsRequired d) × Chosen q × ((k : ℕ) → ¬ (Limits d q k))
 
--- a further pivot is required: the opening one, or one in which a chosen variable enters that some
--- row limits
+-- a further pivot is required: the opening one of phase 1, in which variable 0 enters, or else one
+-- in which a chosen variable enters that some row limits
 abbrev pub IsUnfinishedBy : (ℕ → Type 0) → Dictionary → Type 0
 IsUnfinishedBy Chosen d = OpeningIsRequired d ⊎ (¬ (OpeningIsRequired d) × ((q k : ℕ) × Chosen q × Limits d q k))
 
@@ -33,29 +33,29 @@ IsUnfinishedBy Chosen d = OpeningIsRequired d ⊎ (¬ (OpeningIsRequired d) × (
 abbrev pub IsPhase : Dictionary → ℕ → Type 0
 IsPhase d phase = ((phase ≡ 1) × (OpeningIsRequired d ⊎ InPhaseOne d)) ⊎ ((phase ≡ 2) × ¬ (OpeningIsRequired d) × ¬ (InPhaseOne d))
 
--- `step` does not fit in the n-th pivot, at the dictionary d: a numerator or denominator that it
--- computes exceeds `limit`. It is the first such step of the ratio test of some `Chosen` variable,
--- where no opening pivot is required, or the first of the exchange of some `Allowed` pivot whose
--- whole ratio test fits. An opening pivot has no ratio test.
+-- In the n-th pivot, at the dictionary d, `step` computes a numerator or denominator above `limit`.
+-- It is the first such step of the ratio test of some `Chosen` variable that a row limits, if no
+-- opening pivot is required, or the first such step of the exchange of some `Allowed` pivot whose
+-- ratio test has none. An opening pivot has no ratio test.
 abbrev pub PivotStopsBy : (Pivot → ℕ → Type 0) → (ℕ → Type 0) → ℕ → ℕ → Dictionary → StepName → Type 0
 PivotStopsBy Allowed Chosen limit n d step =
     (¬ (OpeningIsRequired d) × ((q k : ℕ) × Chosen q × Limits d q k × FirstStop (ratio_steps limit n d q) step))
     ⊎ ((p : Pivot) × (k : ℕ) × Allowed p k × TestFits limit n d p × FirstStop (exchange_steps limit n d p.enter k) step)
 
--- q is a variable chosen by the rule that no row limits, at a dictionary where the opening pivot is
--- not required
+-- at the dictionary d the opening pivot is not required, variable q may enter by the rule
+-- (`IsChosen`), and no row limits q
 abbrev pub IsUnlimited : Rule → Dictionary → ℕ → Type 0
 IsUnlimited rule d q = IsUnlimitedBy (IsChosen rule d) d q
 
 -- ---- the kinds of ends
 
--- A search ends at the dictionary d with this kind. `last` is read from d: the value of each
--- variable, its coefficient in the priced row, and for Unbounded a ray. No opening pivot is
--- required. Optimal: no variable improves, and variable 0 is not basic. Infeasible: no variable
--- improves, and variable 0 is basic. Unbounded: variable 0 is not basic, no row limits some
--- variable that may enter (`Chosen`), and the ray is that along which this variable rises.
--- Interrupted: variable 0 is not basic, and `BrokenOff` holds, the condition under which the search
--- is broken off.
+-- A search ends at the dictionary d with this kind. No opening pivot, in which variable 0 enters,
+-- is required. Optimal: variable 0 is not basic, and no variable improves. Infeasible: variable 0
+-- is basic, and no variable improves. Unbounded: variable 0 is not basic, and some variable q that
+-- may enter (`Chosen`) is limited by no row. Interrupted: variable 0 is not basic, and the
+-- condition `BrokenOff` holds. `last` has, by variable, the values in d, the coefficients (0 for a
+-- basic variable) in the row of variable 0 for Infeasible, else in the objective, and for Unbounded
+-- the ray along which q rises.
 abbrev pub EndsAt : (ℕ → Type 0) → Type 0 → Dictionary → EndKind → Last → Type 0
 EndsAt Chosen BrokenOff d kind.Optimal last = ¬ (InPhaseOne d) × NothingImproves d × (last ≡ last_of d)
 EndsAt Chosen BrokenOff d kind.Infeasible last = InPhaseOne d × NothingImproves d × (last ≡ last_of d)
@@ -68,16 +68,17 @@ EndsAt Chosen BrokenOff d kind.Interrupted last = ¬ (InPhaseOne d) × ¬ (Openi
 abbrev pub IsReadAt : Dictionary → EndKind → Last → Type 0
 IsReadAt d kind last = EndsAt (Improves d) ((q : ℕ) × Improves d q) d kind last
 
--- A search may end at the dictionary, at which the opening pivot is not required. None: no variable
--- improves (Optimal, or Infeasible if variable 0 is basic), or variable 0 is not basic and some
--- variable improves (Interrupted). Some q: variable 0 is not basic, variable q improves, and no row
--- limits q (Unbounded).
+-- A search may end at the dictionary, in which no constant is below 0. None: no variable improves
+-- (Optimal, or Infeasible if variable 0 is basic), or variable 0 is not basic and some variable
+-- improves (Interrupted). Some q: variable 0 is not basic, variable q improves, and no row limits q
+-- (Unbounded).
 abbrev pub IsDone : Dictionary → Option ℕ → Type 0
 IsDone d None = NothingImproves d ⊎ (¬ (InPhaseOne d) × ¬ (OpeningIsRequired d) × ((q : ℕ) × Improves d q))
 IsDone d (Some q) = ¬ (InPhaseOne d) × IsUnlimited Legal d q
 
--- what is read from a final dictionary: the value of each variable, its coefficient in the priced
--- row, and the ray along which variable q rises; for None no ray
+-- what is read from a final dictionary: the value of each variable; its coefficient in the priced
+-- row, that of variable 0 while it is basic, else the objective; and for Some q the ray along which
+-- variable q rises, for None no ray
 abbrev pub last_with : Dictionary → Option ℕ → Last
 last_with d None = last_of d
 last_with d (Some q) = last_along d q
@@ -99,10 +100,10 @@ module _ {F : Type 0} (value : F → Number) (lp : Lp F) where
   LeadsTo other last end = ⊥
 
 module _ {F : Type 0} (value : F → Number) (limit : ℕ) (lp : Lp F) where
-  -- The result of the recovery, which computes an end of the kind `how` for the program from
-  -- `last`, which is read from the final dictionary. All its steps fit, and the end has what they
-  -- compute, and its lists prove it; or the end is Refused with the first step that does not fit:
-  -- a numerator or denominator that it computes exceeds `limit`.
+  -- The recovery computes an end of the kind `how` for the program from `last`, which is read from
+  -- the final dictionary. Either all its steps fit, and `end` has the lists that they compute,
+  -- which prove the end (`IsProved`); or `end` is Refused with the first step that does not fit: a
+  -- numerator or denominator that it computes exceeds `limit`.
   abbrev pub EndsWith : EndKind → Last → End F → Type 0
   EndsWith how last end =
       (LeadsTo value lp how last end × AllFit (steps_back value limit lp how last) × IsProved value lp end)
@@ -114,8 +115,8 @@ module _ {F : Type 0} (value : F → Number) (limit : ℕ) (lp : Lp F) (iterlim 
   -- `Chosen` which variables may enter. A step fits if no numerator or denominator that it computes
   -- exceeds `limit`.
   pub data EndsSoBy (pivots : ℕ) (d : Dictionary) (end : End F) : Type 0 where
-    -- the search ends with a kind; it is broken off if the limit of pivots is met and a further
-    -- pivot is required
+    -- the end has the kind `how`; Interrupted needs that `pivots` is `iterlim` and a further pivot
+    -- is required
     ends_by_kind : (how : EndKind) (last : Last) →
         EndsAt Chosen ((pivots ≡ iterlim) × IsUnfinishedBy Chosen d) d how last → EndsWith value limit lp how last end → EndsSoBy pivots d end
     -- the limit of pivots is met in phase 1, and a further pivot is required: the end is

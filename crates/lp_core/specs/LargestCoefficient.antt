@@ -13,8 +13,9 @@ use Rattle.lp_core.specs.Ends.{IsPhase}
 use Rattle.lp_core.specs.Answers.{IsAnswerByChoice}
 use Rattle.lp_core.specs.Choices.{leaving_row, reached, AllAlong}
 
--- Variable q improves, no improving variable has a greater coefficient in the priced row, and q is
--- the least of those with this coefficient.
+-- Variable q improves, no improving variable has a greater coefficient in the priced row (the row
+-- of variable 0 while variable 0 is basic, else the objective), and q is the least of those with
+-- this coefficient.
 pub record HasGreatest (d : Dictionary) (q : ℕ) : Type 0 where
   pub improves : Improves d q
   pub greatest : (v k : ℕ) → Improves d v → IsPriced d k → entry_at d k v ≤ℚ entry_at d k q
@@ -48,9 +49,9 @@ pub record HasTurned (first : Dictionary) (pivots : List Pivot) (d : Dictionary)
 abbrev pub IsNext : Dictionary → List Pivot → Dictionary → ℕ → Type 0
 IsNext first pivots d q = (¬ (HasTurned first pivots d) × HasGreatest d q) ⊎ (HasTurned first pivots d × IsChosen Bland d q)
 
--- an answer of a program in which `IsNext` says which variable may enter: that with the largest
--- coefficient or, once the search has turned to Bland's rule, the one that this rule chooses;
--- `iterlim` is the limit of pivots, and `limit` bounds the numerators and denominators that the
--- solver computes with
+-- an answer of a program by a search in which `IsNext` says which variable may enter: that with the
+-- largest coefficient or, once the search has turned to Bland's rule, the one that this rule
+-- chooses; `iterlim` is the limit of pivots, and `limit` bounds the numerators and denominators
+-- that the solver computes with
 abbrev pub IsLargestAnswer : {F : Type 0} → (F → Number) → ℕ → Lp F → ℕ → Answer F → Type 0
 IsLargestAnswer value limit lp iterlim answer = IsAnswerByChoice value limit lp iterlim IsNext answer

@@ -51,7 +51,8 @@ last_of d =
       changes = [];
     }
 
--- what is read from a final dictionary with a ray: also the change of each variable as q rises by 1
+-- what is read from a final dictionary with a ray: what is read without a ray (`last_of`), and the
+-- change of each variable as q rises by 1
 abbrev pub last_along : Dictionary → ℕ → Last
 last_along d q = record (last_of d) { changes = map (λ v. change_by_row d q v (row_of_basic d v)) (all_variables d) }
 
@@ -82,16 +83,17 @@ pub record IsTaken (Chosen : ℕ → Type 0) (d : Dictionary) (p : Pivot) : Type
 
 -- p is a legal pivot at the dictionary d: the opening one of phase 1, in which variable 0 enters,
 -- or one in which a variable enters that improves the objective of the phase and is `Chosen`. Of
--- the variables that may leave in it the least leaves: these tie in the ratio test, or have the
--- least constant at the opening. k is the row of the variable that leaves
+-- the variables that may leave, the one with the least number leaves: these variables tie in the
+-- ratio test, or, at the opening, their rows have the least constant. k is the row of the variable
+-- that leaves
 abbrev pub IsAllowedBy : (ℕ → Type 0) → Dictionary → Pivot → ℕ → Type 0
 IsAllowedBy Chosen d p k = IsLegal d p k × IsTaken Chosen d p
 
--- a pivot p that the rule allows at the dictionary d. Under Legal it is any legal pivot: the
--- opening one of phase 1, in which variable 0 enters, or one in which an improving variable enters
--- and a variable leaves that ties in the ratio test, variable 0 if it ties. Under Bland it is a
--- legal pivot in which, unless it is the opening one, the least improving variable enters, and the
--- least of those that may leave does so. k is the row of the variable that leaves
+-- p is a pivot that the rule allows at the dictionary d; k is the row of the variable that leaves.
+-- Legal: p is the opening pivot of phase 1, in which variable 0 enters; or an improving variable
+-- enters, and one of those that tie in the ratio test leaves, variable 0 if it ties. Bland: such a
+-- pivot in which the improving variable with the least number enters, unless p is the opening one,
+-- and of those that may leave that with the least number leaves
 abbrev pub IsAllowed : Rule → Dictionary → Pivot → ℕ → Type 0
 IsAllowed Bland d p k = IsAllowedBy (IsChosen Bland d) d p k
 IsAllowed Legal d p k = IsLegal d p k
@@ -103,12 +105,11 @@ IsAllowed Legal d p k = IsLegal d p k
 abbrev pub ByRule : Rule → List Pivot → Dictionary → Pivot → ℕ → Type 0
 ByRule rule done d p k = IsAllowed rule d p k
 
--- the legal pivots p by a choice of the entering variable: an improving variable enters that
--- `choice` allows, and of the variables that tie in the ratio test the least leaves; or p is the
--- opening pivot of phase 1, in which variable 0 enters, and the least of the variables with the
--- least constant leaves. `choice` depends on the dictionary `first` at the start, the pivots `done`
--- so far, the dictionary d that they lead to, and the variable. k is the row of the variable that
--- leaves
+-- the legal pivots p by a choice of the entering variable. k is the row of the leaving one, that
+-- with the least number of those that may leave. An improving variable enters that `choice` allows,
+-- and those may leave that tie in the ratio test. Or p is the opening pivot of phase 1: variable 0
+-- enters, and those may leave whose rows have the least constant. `choice` depends on the
+-- dictionary `first` at the start, the pivots `done` from there to d, d itself, and the variable
 abbrev pub ByChoice : (Dictionary → List Pivot → Dictionary → ℕ → Type 0) → Dictionary → List Pivot → Dictionary → Pivot → ℕ → Type 0
 ByChoice choice first done d p k = IsAllowedBy (choice first done d) d p k
 
@@ -120,10 +121,9 @@ module _ (Allowed : List Pivot → Dictionary → Pivot → ℕ → Type 0) wher
   Leads done d [] last = last ≡ d
   Leads done d (p ∷ pivots) last = (k : ℕ) × Allowed done d p k × Leads (done ++ p ∷ []) (exchanged d p.enter k) pivots last
 
-  -- each step of arithmetic in these pivots, of the ratio tests and the exchanges, fits: no
-  -- numerator or denominator that it computes exceeds the limit. After the pivots `done` these
-  -- pivots lead from d to `last` by `way`, which has the row of each; the first of them is the n-th
-  -- pivot
+  -- no step of these pivots, in a ratio test or an exchange, computes a numerator or denominator
+  -- above `limit`. After the pivots `done` these pivots lead from d to `last` by `way`, which has
+  -- the row of each one's leaving variable. The first of these pivots is the n-th of the search
   abbrev pub PivotsFit : ℕ → ℕ → (done : List Pivot) (d : Dictionary) (pivots : List Pivot) (last : Dictionary) → Leads done d pivots last → Type 0
   PivotsFit limit n done d [] last way = Unit {0}
   PivotsFit limit n done d (p ∷ pivots) last way =

@@ -167,8 +167,9 @@ module _ {F : Type 0} (value : F → Number) (lp : Lp F) where
 -- ---- the recovery
 
 -- What is read from a final dictionary, for all variables from number 0, the artificial variable of
--- phase 1: their values; their coefficients in the objective (`costs`), or in the row of variable 0
--- if the program is infeasible; and their changes along a ray.
+-- phase 1: their values; their coefficients (`costs`, 0 for a basic variable) in the objective, or
+-- in the row of variable 0 if the program is infeasible; and, if the program is unbounded, their
+-- changes along a ray, else the empty list.
 pub record Last : Type 0 where
   pub values : List Number
   pub costs : List Number
@@ -188,8 +189,8 @@ dual_by_sense sense.L p r = p r
 dual_by_sense sense.G p r = neg_ℚ (p r)
 dual_by_sense sense.N p r = whole (pos 0)
 
--- the duals of these rows, from the multipliers p of the standard form's rows; r is the first of
--- these that belongs to the first row
+-- the duals of these rows, from the multipliers p of the standard form's rows; r is the index of
+-- the first row of the standard form that belongs to the first of these rows
 abbrev pub duals_from : {F : Type 0} → (ℕ → Number) → ℕ → List (Row F) → List Number
 duals_from p r [] = []
 duals_from p r (row ∷ rows) = dual_by_sense row.sense p r ∷ duals_from p (r + rows_of_sense row.sense) rows
@@ -203,9 +204,10 @@ reduced_by_bounds costs p v r (Some lower) None = value_of_column costs v
 reduced_by_bounds costs p v r None (Some upper) = neg_ℚ (value_of_column costs v)
 reduced_by_bounds costs p v r None None = whole (pos 0)
 
--- the reduced costs of these columns, from the final coefficients `costs` of all variables and the
--- multipliers p of the standard form's rows. `shifts` has, for each column, the number of its first
--- variable and its shift; r is the standard form's row of the first column that has one
+-- the reduced costs of these columns, from the coefficients `costs` of all variables in the
+-- objective of the final dictionary, and the multipliers p of the standard form's rows. `shifts`
+-- has, for each column, the number of its first variable and its shift; r is the index of the
+-- standard form's row for the bounds of the first column that has two
 abbrev pub reduced_from : {F : Type 0} → List Number → (ℕ → Number) → ℕ → List (ℕ × Shift) → List (Column F) → List Number
 reduced_from costs p r [] columns = []
 reduced_from costs p r (s ∷ shifts) [] = []
@@ -224,14 +226,15 @@ module _ {F : Type 0} (value : F → Number) (lp : Lp F) (last : Last) where
   abbrev pub levels_back : List Number
   levels_back = point_of (standard_form value lp) last.values
 
-  -- the dual of each row at an optimum, from the coefficients of the slacks in the objective of the
-  -- final dictionary (`last`); negated if the program minimizes
+  -- the dual of each row at an optimum. It results by the row's sense (`duals_from`) from the
+  -- multipliers, the negated coefficients of the slacks in the objective of the final dictionary
+  -- (`last`), and is then negated if the program minimizes
   abbrev pub duals_back : List Number
   duals_back = map (directed lp.maximize) (duals_from (multiplier (variables_of value lp) last.costs) 0 lp.rows)
 
   -- the reduced cost of each column at an optimum, from the coefficients of the variables in the
   -- objective of the final dictionary (`last`); negated if the program minimizes. In the standard
-  -- form the rows for columns follow those of the program's rows
+  -- form the rows for columns with two bounds follow those for the program's rows
   abbrev pub reduced_back : List Number
   reduced_back =
       map (directed lp.maximize) (reduced_from last.costs (multiplier (variables_of value lp) last.costs) (count_of_rows lp.rows) (columns_of value lp) lp.columns)

@@ -55,10 +55,10 @@ difference_fits limit x y = sum_fits limit x (neg_ℚ y)
 
 -- ---- the standard form: each bound is taken out of a right side, entry by entry
 
--- the steps that take the bound b of column j, from 0, out of the right side of standard row r,
--- from 1, as the column is b plus or less a variable: the product of the column's coefficient a and
--- b, then `right`, the right side so far, less the product; none for a free column. A step's name
--- has the row, the column from 1, and the kind (0: a product, 1: a difference)
+-- the steps that subtract a * b from the right side of standard row r, from 1. Column j, from 0,
+-- has the coefficient a, and is its bound b plus or less a variable. The steps are the product,
+-- then `right`, the right side so far, less the product; none for a free column. A step's name has
+-- the row, the column from 1, and the kind (0: a product, 1: a difference)
 abbrev pub shifting : ℕ → ℕ → ℕ → Shift → Number → Number → List ExpectedStep
 shifting limit r j free a right = []
 shifting limit r j (from_lower b) a right =
@@ -91,8 +91,9 @@ abbrev pub bound_step : ℕ → ℕ → ℕ → Option Number → Option Number 
 bound_step limit r j (Some lower) (Some upper) = (StandardStep r (j + 1) 1, difference_fits limit upper lower) ∷ []
 bound_step limit r j lower upper = []
 
--- the steps on these columns, one for each with two bounds; j is the number of the first column,
--- from 0, and r that of the next standard row, from 1
+-- the steps that subtract the lower bound of a column from its upper one, one step for each of
+-- these columns with two bounds; j is the number of the first column, from 0, and r that of the
+-- next standard row, from 1
 abbrev pub bounds_steps : {F : Type 0} → (F → Number) → ℕ → ℕ → ℕ → List (Column F) → List ExpectedStep
 bounds_steps value limit r j [] = []
 bounds_steps value limit r j (column ∷ columns) =
@@ -122,11 +123,11 @@ abbrev pub pivot_row_steps : ℕ → ℕ → Dictionary → ℕ → ℕ → List
 pivot_row_steps limit pivot d q k =
     map (λ c. (Exchange pivot (k + 1) c 0, quotient_fits limit (d.numbers k c) (entry_at d k q))) (range_with_len 0 (d.variables + 2))
 
--- the steps on row i, another row or the objective, in the pivot of number `pivot`, in which
--- variable q enters and the variable of row k leaves. For each number of row i, the first is the
--- product of row i's coefficient of q and the number of row k divided by row k's coefficient of q,
--- and the second is row i's number less this product. A step's name has the number of the pivot,
--- the row from 1, the column c from 0, and the kind (0: a product, 1: a difference)
+-- the steps on row i, which is not row k, in the pivot of number `pivot`, in which variable q
+-- enters and the variable of row k leaves; row i may be the objective. At each column c there are
+-- two: the product of row i's coefficient of q and a quotient, row k's number at c over row k's
+-- coefficient of q; then row i's number at c less this product. A step's name has the number of the
+-- pivot, the row from 1, c from 0, and the kind (0: a product, 1: a difference)
 abbrev pub other_row_steps : ℕ → ℕ → Dictionary → ℕ → ℕ → ℕ → List ExpectedStep
 other_row_steps limit pivot d q k i =
     flat_map (λ c. (Exchange pivot (i + 1) c 0, product_fits limit (entry_at d i q) (divided_entry d q k c)) ∷ (Exchange pivot (i + 1) c 1, difference_fits limit (d.numbers i c) (entry_at d i q *ℚ divided_entry d q k c)) ∷ [])
@@ -142,10 +143,10 @@ exchange_steps limit pivot d q k =
 
 -- ---- the recovery; places count from 0
 
--- the step that computes the value of column j, by its shift: the sum or difference of the bound b
--- and variable v, or the difference of variables v and v + 1; y has the values of variables. The
--- step's name has the list (0: the values of columns), the index j in it, the entry (0: none), and
--- the kind (1: a sum or a difference)
+-- the step that computes the value of column j by its shift: the bound b plus y_v (`from_lower`), b
+-- less y_v (`from_upper`), or y_v less y_(v + 1) (`free`); y_v is the value of variable v. A step's
+-- name has the list (0: the values of columns), the index j in it, the entry (0: none), and the
+-- kind (1: a sum or a difference)
 abbrev pub level_step : ℕ → ℕ → ℕ × Shift → List Number → ExpectedStep
 level_step limit j (v, from_lower b) y = (Recover 0 j 0 1, sum_fits limit b (value_of_column y v))
 level_step limit j (v, from_upper b) y = (Recover 0 j 0 1, difference_fits limit b (value_of_column y v))
@@ -160,22 +161,23 @@ row_level_steps value limit i e s (p ∷ entries) x =
     (Recover 1 i e 0, product_fits limit (value p.1) (value_of_column x p.0))
     ∷ (Recover 1 i e 1, sum_fits limit s (value p.1 *ℚ value_of_column x p.0)) ∷ row_level_steps value limit i (e + 1) (s +ℚ value p.1 *ℚ value_of_column x p.0) entries x
 
--- the steps that compute the duals of rows, of which the first is row i: a difference for an
--- equation, none for another; p has the multipliers of standard rows, and r is the first standard
--- row that belongs to row i. A step's name has the list (2: the duals), the index i in it, the
--- entry (0: none), and the kind (1: a difference)
+-- the steps that compute the duals of rows from row i on: for an equation the difference of its two
+-- standard rows' multipliers, for another row none. p has the multipliers; r is the first standard
+-- row of row i. A step's name has the list (2: the duals), the index i in it, the entry (0: none),
+-- and the kind (1: a difference)
 abbrev pub dual_steps : {F : Type 0} → ℕ → (ℕ → Number) → ℕ → ℕ → List (Row F) → List ExpectedStep
 dual_steps limit p i r [] = []
 dual_steps limit p i r (row ∷ rows) =
     (if rows_of_sense row.sense == 2 then (Recover 2 i 0 1, difference_fits limit (p r) (p (r + 1))) ∷ [] else [])
     ++ dual_steps limit p (i + 1) (r + rows_of_sense row.sense) rows
 
--- the steps that compute the reduced costs of columns, of which the first is column j. A column
--- with two bounds has a row in the standard form: its step is the sum of two numbers, the
--- coefficient of its variable, whose number `shifts` has, in the objective of the final dictionary
--- (`costs`, by variable), and the multiplier of its row (p, by row). Another column has no step.
--- Row r is the next row of a column, that of column j if it has one. A step's name has the list (3:
--- the reduced costs), the index j in it, the entry (0: none), and the kind (1: a sum).
+-- the steps that compute the reduced costs of columns from column j on. A column with two bounds
+-- has a row in the standard form: its step is the sum of the coefficient of its variable in the
+-- objective of the final dictionary and the multiplier of its row. Another column has no step.
+-- `costs` has the coefficients by variable, `shifts` the variable of each column, p the multipliers
+-- by row. Row r is that of the first of these columns with two bounds; the later ones' rows follow.
+-- A step's name has the list (3: the reduced costs), the index j in it, the entry (0: none), and
+-- the kind (1: a sum).
 abbrev pub reduced_steps : {F : Type 0} → ℕ → List Number → (ℕ → Number) → ℕ → ℕ → List (ℕ × Shift) → List (Column F) → List ExpectedStep
 reduced_steps limit costs p j r [] columns = []
 reduced_steps limit costs p j r (s ∷ shifts) [] = []
@@ -292,10 +294,10 @@ abbrev pub asks_nothing : Sense → Bool
 asks_nothing sense.N = true
 asks_nothing s = false
 
--- the answer of the check of a row and of the rows after it. The first argument is the row's sum,
--- or Err with the step that does not fit under the limit; `rest` is the answer for the rows after
--- it. The answer is this Err; Ok false if the sum does not compare with `right` as the sense s
--- says; else `rest`
+-- the answer of the check of a row and of later rows. The first argument is the row's sum, or Err
+-- with the step that does not fit; `rest` is the answer for the later rows. An Err is the answer;
+-- for a sum it is Ok false if the sum does not compare with `right` as the sense s says, else
+-- `rest`
 abbrev pub compared : Result Number StepName → Sense → Number → Result Bool StepName → Result Bool StepName
 compared (Ok sum) s right rest = if keeps_sense s sum right then rest else Ok false
 compared (Err step) s right rest = Err step
@@ -318,7 +320,8 @@ steps_of_rows [] = 0
 steps_of_rows (row ∷ rows) = (if asks_nothing row.sense then 0 else 2 * length row.entries) + steps_of_rows rows
 
 -- the check of the point x: Ok false if a value is outside its column's bounds; else the check of
--- the rows, with steps from 0: Ok says whether x satisfies them, Err has the first step that
--- computes a numerator or denominator above the limit
+-- the rows in order: Ok false at the first row that x does not satisfy, Err with the first step
+-- that computes a numerator or denominator above the limit, whichever comes first, and Ok true if
+-- neither comes. The steps are numbered from 0
 abbrev pub checked_point : {F : Type 0} → (F → Number) → ℕ → Lp F → List Number → Result Bool StepName
 checked_point value limit lp x = if bounds_hold value x 0 lp.columns then checked_rows value limit x 0 lp.rows else Ok false

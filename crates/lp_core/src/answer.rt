@@ -3,8 +3,8 @@ use crate::sequence::Sequence;
 use thiserror::Error;
 
 /// One pivot of the simplex method: the variables that enter and leave the basis, by their numbers
-/// in the standard form. Number 0 is the artificial variable; the variables of the columns follow
-/// from 1, and then the slacks.
+/// in the standard form. Number 0 is the artificial variable, then come the variables of the
+/// columns, and then the slacks.
 #[derive(Clone, Copy)]
 pub struct Pivot {
     /// The variable that enters the basis, by its number in the standard form.
@@ -23,11 +23,12 @@ pub enum Rule {
     Legal,
 }
 
-/// A step on the way from a program to its answer: a product, quotient, sum or difference, which
-/// may not fit under the field's limit of numerators and denominators.
+/// A step in the computation of a program's answer: a product, quotient, sum or difference, whose
+/// numerator or denominator may exceed the limit of the number type.
 ///
-/// A field `part` is 0 for a product or a quotient, and 1 for a sum or a difference; in `Check` the
-/// field is the number of the step, from 0.
+/// In `Check`, a step of the check of a point or of duals, `part` is the number of the step in this
+/// check, from 0. In each other variant that has `part`, it is 0 for a product or a quotient, and 1
+/// for a sum or a difference.
 #[derive(Clone, Copy, Debug, Error)]
 pub enum StepName {
     /// In the standard form: a coefficient times the bound of its column, and the right side less
@@ -83,9 +84,8 @@ pub enum StepName {
     },
 }
 
-/// How a search ends at a final dictionary. The kind of end determines which lists the recovery of
-/// the answer computes from this dictionary, and by which steps. The lists are the certificate of
-/// the end.
+/// How a search ends at a final dictionary: at an optimum, without a feasible point, with an
+/// unbounded objective, or broken off although a variable still improves the objective.
 #[derive(Clone, Copy)]
 pub enum EndKind {
     /// No variable improves the objective, and variable 0 is not basic.

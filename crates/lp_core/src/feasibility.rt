@@ -127,14 +127,14 @@ fn keep_rows<F: ExactField>(rows: &[Row<F>], x: &[F]) -> Result<bool, StepName>
 }
 
 /// Whether the point `x` is feasible: each value is within the bounds of its column, and the sum of
-/// each row compares with the row's right side as the row's sense says. `x` has the value of each
-/// column, in the order of the columns.
+/// each row compares with the row's right side as the row's sense says. `x` must have one value for
+/// each column, in the order of the columns.
 ///
-/// The bounds are compared first, and then the rows, in order. Each entry of each binding row (any
-/// but one of the sense N, `=n=`) has two steps, a product and a sum. Each step is named `Check`
-/// with its number, counted from 0 over all steps of the binding rows. The first bound or row that
-/// is not satisfied ends the check with `Ok(false)`. The first step that does not fit under the
-/// field's limit of numerators and denominators ends the check, and is the error.
+/// The bounds are checked first, then the rows except those of the sense N (`=n=`), in order.
+/// Before a row is compared, each of its entries takes two steps: a product, then a sum. A step is
+/// named `Check` with its number, from 0 over these rows. The check ends at the first bound or row
+/// not satisfied, with `Ok(false)`, or at the first step with a numerator or denominator beyond the
+/// field's limit, the error.
 pub fn feasible_at<F: ExactField>(lp: &Lp<F>, x: &[F]) -> Result<bool, StepName>
     requires well_formed { IsWellFormed F.value lp.now }
     requires sized { length x.now ≡ length lp.now.columns }

@@ -17,8 +17,8 @@ ghost use Rattle.lp_core.specs.Proofs.{ProvesOptimal, ProvesInfeasible, ProvesCr
 
 use gq_field::ExactField;
 
-/// Weak duality: no feasible point has a better objective than the bound that `duals`, a factor for
-/// each row, give if they give one: a lower bound when minimizing, an upper one when maximizing. So
+/// Weak duality. Let `duals`, a factor for each row, give a bound of the objective: a lower one
+/// when minimizing, an upper one when maximizing. Each feasible point's objective satisfies it. So
 /// no feasible point is better than an optimum that comes with its certificate (Chvatal, Linear
 /// Programming, chapter 5).
 pub fn weak_duality<F: ExactField>()
@@ -38,8 +38,8 @@ pub fn weak_duality<F: ExactField>()
         value_of_column x lp.objective ≤ℚ value_of_column levels lp.objective }
 {}
 
-/// Farkas: no point is feasible if `duals`, a factor for each row, are a certificate of this. Their
-/// combination of rows and bounds would give the number 0 a lower bound above 0 at a feasible point
+/// Farkas: no point is feasible if `duals`, a factor for each row, prove it: the sum of the rows
+/// times their factors, and the bounds, would give 0 a lower bound above 0 at a feasible point
 /// (Chvatal, Linear Programming, chapter 9).
 pub fn farkas<F: ExactField>()
     ensures { (lp : Lp F) (duals x : List Number) → IsWellFormed F.value lp →
@@ -53,10 +53,10 @@ pub fn crossed_bounds<F: ExactField>()
         ProvesCrossed F.value lp j duals → ¬ (Feasible F.value lp x) }
 {}
 
-/// The certificate of an unbounded end: a point (`levels`), the sum of each row at the point
-/// (`row_levels`), and a ray. The point plus each nonnegative multiple of the ray is feasible. For
-/// each number, one of these points has an objective that is at most this number when minimizing,
-/// and at least this number when maximizing.
+/// The certificate of an unbounded end: a point (`levels`), the sum of each row there
+/// (`row_levels`), and a ray. The point plus t times the ray is feasible for each t from 0 on. For
+/// each number there is such a t at which the objective is at most this number when minimizing, and
+/// at least this number when maximizing.
 pub fn unbounded_ray<F: ExactField>()
     ensures feasible { (lp : Lp F) (levels row_levels ray : List Number) (t : Number) →
         IsWellFormed F.value lp → ProvesUnbounded F.value lp levels row_levels ray →
@@ -69,10 +69,10 @@ pub fn unbounded_ray<F: ExactField>()
         (t : Number) × (whole (pos 0) ≤ℚ t) × (goal ≤ℚ value_of_column (further levels t ray) lp.objective) }
 {}
 
-/// Answers under other conditions; an answer is the pivots of a search and how the search ends. An
-/// answer under Bland's rule is also one under the rule Legal, which lets every improving variable
-/// enter (`legal`). An answer that ends as Optimal is also an answer under each other limit of
-/// pivots that is at least its number of pivots (`within`).
+/// When an answer (pivots and end of a search) is also one under another rule or limit of pivots.
+/// An answer under Bland's rule is one under the rule Legal, which lets every improving variable
+/// enter, and the same limit (`legal`). An Optimal answer is one under each limit that is at least
+/// its number of pivots, and the same rule (`within`).
 pub fn answers_too<F: ExactField>()
     ensures legal { (lp : Lp F) (iterlim : ℕ) (answer : Answer F) →
         IsAnswer F.value F.limit lp iterlim Bland answer → IsAnswer F.value F.limit lp iterlim Legal answer }

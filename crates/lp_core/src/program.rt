@@ -19,8 +19,7 @@ pub enum Sense {
 /// A column: an element of a variable, with a lower and an upper bound of its value, each of which
 /// is optional.
 pub struct Column<F> {
-    /// The column's element of a variable: the number of the variable, and the labels of the
-    /// element.
+    /// The column's element of a variable: the number of the variable's name, and the labels.
     pub key: Key,
     /// The lower bound of the column's value; `None` if it has no lower bound.
     pub lower: Option<F>,
@@ -39,17 +38,17 @@ impl<F: Drop> Drop for Column<F> {
     }
 }
 
-/// A row: an element of an equation, with its coefficients and its right side.
+/// A row: the coefficients, sense and right side of an element of an equation.
 ///
-/// `supply.. x + 2*y =l= 9;` is a row of sense L with the right side 9 and two entries.
+/// `supply.. x + 2*y =l= 9;` has the coefficients 1 and 2, sense L and right side 9.
 pub struct Row<F> {
-    /// The row's element of an equation: the number of the equation, and the labels of the element.
+    /// The row's element of an equation: the number of the equation's name, and the labels.
     pub key: Key,
-    /// How the sum of the row has to compare with the row's right side.
+    /// How the sum of the row's terms must compare with the right side.
     pub sense: Sense,
-    /// The right side: the number with which the sum of the row is compared.
+    /// The number with which the sum of the row's terms is compared.
     pub right: F,
-    /// The coefficients that are not 0, each after the number of its column, from 0. The numbers of
+    /// The coefficients that are not 0, each with the number of its column, from 0. The numbers of
     /// the columns ascend.
     pub entries: Sequence<(u32, F)>,
 }
@@ -71,7 +70,7 @@ impl<F: Drop> Drop for Row<F> {
 pub struct Lp<F> {
     /// The columns. The number of a column is its position in this list, from 0.
     pub columns: Sequence<Column<F>>,
-    /// The rows. A list with a value for each row, such as that of the dual values, has this order.
+    /// The rows. Lists by row, such as that of the dual values, have the order of this list.
     pub rows: Sequence<Row<F>>,
     /// The number of the column whose value is the objective, from 0.
     pub objective: u32,

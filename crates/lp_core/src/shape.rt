@@ -10,10 +10,10 @@ use gq_field::ExactField;
 use lp_form::Key;
 use std::cmp::Ordering;
 
-/// The greatest number of rows of a standard form.
+/// The most rows that a standard form may have.
 pub const MOST_ROWS: usize = 1500;
 
-/// The greatest number of variables of a standard form, slacks not counted.
+/// The most variables, except slacks and variable 0, of a standard form.
 pub const MOST_COLUMNS: usize = 3000;
 
 /// Whether two keys are the same.
@@ -175,10 +175,9 @@ pub fn count_variables<F>(columns: &[Column<F>]) -> usize
     count
 }
 
-/// Whether a program is well formed: the objective is one of the columns; no two columns have the
-/// same key, and no two rows; the entries of each row ascend by column, name columns of the program
-/// and are not 0; and the standard form has at most 1,500 rows and 3,000 variables, slacks not
-/// counted.
+/// Whether a program is well formed: the objective is a column; no two columns have the same key,
+/// and no two rows; each row's entries ascend by column, name columns of the program and are not 0;
+/// the standard form has at most 1,500 rows and, without slacks and variable 0, 3,000 variables.
 pub fn well_formed<F: ExactField>(lp: &Lp<F>) -> bool
     ensures { IsTrue result ↔ IsWellFormed F.value lp.now }
 {

@@ -13,18 +13,18 @@ use lp_core::{Answer, Lp};
 use lp_simplex::solve_with;
 use std::alloc::{AllocError, Global};
 
-/// The answer of a program by the rule of the largest coefficient, under the limit of `iterlim`
-/// pivots; the program has no other (Chvatal, Linear Programming, chapters 2 and 3).
+/// The only answer of a program by the rule of the largest coefficient, with at most `iterlim`
+/// pivots (Chvatal, Linear Programming, chapters 2 and 3).
 ///
-/// Of the variables that improve, one with the greatest coefficient enters, and of several such the
-/// one with the least number. Of those that tie in the ratio test the one with the least number
-/// leaves. Let v be the number of variables of the standard form, slacks and variable 0 included.
-/// After v successive degenerate pivots of one phase, Bland's rule takes over to the end of the
-/// phase. Optimal, Infeasible and Unbounded come with their certificates. Interrupted is the end
-/// after exactly `iterlim` pivots when a further one is required. Refused has the first step that
-/// computes a numerator or a denominator beyond the limit of the field. There are fewer than
-/// `2 * 2^v * (v + 1)` pivots. If `iterlim` is at least this bound, the end is not Interrupted. The
-/// only error is out of memory.
+/// Of the variables that improve the phase's objective, the one with the greatest coefficient in it
+/// enters, and of several the one with the least number. Of the basic variables with the least
+/// ratio, the one with the least number leaves. Let v be the number of variables of the standard
+/// form, slacks and variable 0 included. After v successive degenerate pivots of one phase, Bland's
+/// rule applies until the phase ends. An end Optimal, Infeasible or Unbounded has a certificate.
+/// Interrupted is the end after exactly `iterlim` pivots if a further one is required. Refused has
+/// the first step that computes a numerator or denominator above the field's limit. There are fewer
+/// than `2 * 2^v * (v + 1)` pivots. If `iterlim` is at least this bound, the end is not
+/// Interrupted. The only error is out of memory.
 pub fn solve_in<F: ExactField>(
     alloc: Global,
     lp: &Lp<F>,

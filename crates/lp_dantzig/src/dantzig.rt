@@ -17,9 +17,12 @@ use lp_slot::{LpSolver, SolverRule};
 use std::alloc::{AllocError, Global};
 use std::marker::Model;
 
-/// Dantzig's solver: the variable that improves with the greatest coefficient enters, and of those
-/// that tie in the ratio test the one with the least number leaves. After as many successive
-/// degenerate pivots of one phase as there are variables, slacks and variable 0 included, it
+/// Dantzig's solver. The priced row is that of variable 0 while variable 0 is basic, and otherwise
+/// the objective. Of the variables other than variable 0 with coefficients above 0 in it, the one
+/// with the greatest enters, and of several the one with the least number. A row equates the sum of
+/// its terms with a constant, so variable 0 falls as such a variable rises. Of the basic variables
+/// with the least ratio, the one with the least number leaves. After v successive degenerate pivots
+/// of one phase, where v is the number of variables, slacks and variable 0 included, the solver
 /// follows Bland's rule to the end of the phase.
 #[derive(Drop)]
 pub struct Dantzig {

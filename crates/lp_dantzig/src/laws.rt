@@ -16,7 +16,7 @@ pub fn answer_is_legal<F: ExactField>()
 {}
 
 /// For each limit of pivots a well-formed program has at most one answer by the rule of the largest
-/// coefficient: the program and the limit determine the pivots, the end and each of its numbers.
+/// coefficient: the program and the limit determine the answer's pivots, kind of end and values.
 pub fn one_answer<F: ExactField>()
     ensures { (lp : Lp F) (iterlim : ℕ) (a b : Answer F) → IsWellFormed F.value lp →
         IsLargestAnswer F.value F.limit lp iterlim a → IsLargestAnswer F.value F.limit lp iterlim b → a ≡ b }

@@ -9,7 +9,7 @@ use Rattle.lp_dict.specs.declared.body.Body.{Body}
 use Rattle.lp_dict.specs.declared.body.Body.TheVariants as body
 
 -- A dictionary: the basic variable of each row, the stored numbers (`body`), and `upcoming`, the
--- number that the next pivot has in the names of its steps.
+-- ordinal of the next pivot.
 pub record Tableau (F : Type 0) : Type 0 where
   -- the greatest number of a variable
   pub variables : ℕ
@@ -17,7 +17,7 @@ pub record Tableau (F : Type 0) : Type 0 where
   pub body : Body F
   pub upcoming : ℕ
 
--- the number that the next pivot of a stored dictionary has in the names of its steps
+-- the ordinal of the next pivot, which is kept with a stored dictionary
 abbrev pub upcoming_of : {F : Type 0} → Body F → ℕ
 upcoming_of (body.Whole w upcoming) = upcoming
 upcoming_of (body.Exact t) = t.upcoming
@@ -27,7 +27,8 @@ abbrev pub kept : {F : Type 0} → (F → Number) → Body F → Dictionary
 kept value (body.Whole w upcoming) = dictionary_of w
 kept value (body.Exact t) = exact.fraction_dictionary value t
 
--- the view that callers have of a stored dictionary
+-- the view that callers have of a stored dictionary: the greatest number of a variable, the basic
+-- variables, the stored form, and the ordinal of the next pivot (`upcoming`)
 abbrev pub tableau : {F : Type 0} → (F → Number) → Body F → Tableau F
 tableau value b =
     record { variables = (kept value b).variables; basic = (kept value b).basic; body = b; upcoming = upcoming_of b }
@@ -44,7 +45,7 @@ IsWithinField limit (body.Whole w upcoming) = w.bound ≤ limit
 IsWithinField limit (body.Exact t) = Unit {0}
 
 -- The invariant of a stored dictionary: it satisfies `IsProper`, the invariant of a program's
--- dictionaries; it has no more rows than variables other than 0; the bound on the size of its
+-- dictionaries; it has no more basic variables than variables other than 0; the bound on its
 -- integers, if it stores integer rows, is at most the field's limit on the size of numbers; and the
 -- opening pivot, in which variable 0 enters, may be required only before the first pivot.
 pub record IsDictInvariant {F : Type 0} (value : F → Number) (limit : ℕ) (b : Body F) : Type 0 where

@@ -29,14 +29,14 @@ use lp_std::{Final, Standard, Stop};
 use std::alloc::{AllocError, Global};
 use std::marker::Model;
 
-/// A dictionary of the simplex method: an equation for each basic variable, which is its row, and
-/// one for the objective (Chvatal, Linear Programming, chapters 2 and 3). In a row the sum of the
-/// coefficients times the variables equals the constant. The objective equals its sum less its
-/// constant.
+/// A dictionary of the simplex method: for each basic variable an equation, the row of this
+/// variable, and one for the objective (Chvatal, Linear Programming, chapters 2 and 3). In a row
+/// the sum of the coefficients times the variables equals the constant. The objective equals such a
+/// sum less a constant. Variable 0 is the artificial variable of phase 1.
 ///
-/// The rows are stored in one of two forms: as integers over a common denominator for each row, as
-/// long as these integers are small, and from the first pivot at which some are not, as reduced
-/// fractions. No result depends on the form. Variable 0 is the artificial variable of phase 1.
+/// Each equation is stored as integers over a common denominator. Once an estimate exceeds a bound,
+/// all are stored as reduced fractions from then on. The numbers of the dictionary do not depend on
+/// the form.
 #[derive(Drop)]
 pub struct Dict<F: ExactField> {
     body: Body<F>,
@@ -53,10 +53,11 @@ impl<F: ExactField> Model for Dict<F> {
 }
 
 impl<F: ExactField> Dict<F> {
-    /// The first dictionary of a standard form, in which the slacks are basic. The standard form
-    /// `s` is that of a well-formed program. If some right side is below 0, variable 0 occurs in
-    /// each row, and the opening pivot, in which variable 0 enters, is required. The number of the
-    /// next pivot is 1. The only error is out of memory.
+    /// The first dictionary of the standard form `s`, which must be that of a well-formed linear
+    /// program. The slacks are basic. If some right side of `s` is below 0, the artificial variable
+    /// 0 has coefficient -1 in each row and must enter in the opening pivot; otherwise it has
+    /// coefficient 0 in each row. In the objective it has coefficient 0. The number of the next
+    /// pivot is 1. The only error is out of memory.
     pub fn of(alloc: Global, s: &Standard<F>) -> Result<Dict<F>, AllocError>
         requires { (lp : Lp F) × IsWellFormed F.value lp × (standard_value F.value s.now ≡ standard_form F.value lp) }
         ensures first { IfOk result (λ d. dictionary F.value d ≡ first_dictionary (standard_value F.value s.now)) }
@@ -88,11 +89,12 @@ impl<F: ExactField> Dict<F> {
         }
     }
 
-    /// A law, with an empty body: what is true of each dictionary. The basic variables are
-    /// distinct, and each occurs in its own row alone, with coefficient 1. If the opening pivot, in
-    /// which variable 0 enters, is required, variable 0 has coefficient -1 in each row. While
-    /// variable 0 is basic, its constant is above 0. There are no more rows than the greatest
-    /// number of a variable, and the number of a column has at most 32 bits.
+    /// A law of each dictionary; n is the greatest number of a variable. The basic variables are
+    /// distinct. Each has coefficient 1 in its own row, and 0 in the other rows and in the
+    /// objective, which is no row. If some row's constant is below 0, the artificial variable 0 has
+    /// coefficient -1 in each row. While variable 0 is basic, its row's constant is above 0. There
+    /// are at most n rows. There are n + 2 columns, fewer than 2^32: the constant, and variables 0
+    /// to n.
     pub fn keeps(&self)
         ensures proper { IsProper (dictionary F.value self.now) }
         ensures few { length self.now.basic ≤ self.now.variables }
@@ -124,10 +126,10 @@ impl<F: ExactField> Dict<F> {
         }
     }
 
-    /// The number at a column of a row. `row` counts the rows from 0, and the objective follows the
-    /// last one. Column 0 is the constant, and variable v has column v + 1. In a row the sum of the
-    /// coefficients times the variables equals the constant. The objective equals its sum less its
-    /// constant. A row of integers is read without a search, a row of fractions by bisection.
+    /// The number in column `column` of row `row`. Rows count from 0, and the objective follows the
+    /// last row. Column 0 has the constant, and column v + 1 the coefficient of variable v. In a
+    /// row the sum of the coefficients times the variables equals the constant. The objective
+    /// equals such a sum less its constant. The row and the column must exist.
     pub fn number(&self, row: usize, column: usize) -> F
         requires row { row ≤ length self.now.basic }
         requires column { column ≤ self.now.variables + 1 }
@@ -139,11 +141,11 @@ impl<F: ExactField> Dict<F> {
         }
     }
 
-    /// The number at a column of a row, as a numerator over a denominator above 0, which may have a
-    /// common factor, since no division is made. `row` counts the rows from 0, and the objective
-    /// follows the last one. Column 0 is the constant, and variable v has column v + 1. In a row
-    /// the sum of the coefficients times the variables equals the constant. The objective equals
-    /// its sum less its constant.
+    /// The number in column `column` of row `row`: a numerator and a denominator above 0, perhaps
+    /// not reduced. Rows count from 0, and the objective follows the last. Column 0 has the
+    /// constant, and column v + 1 the coefficient of variable v. In a row the sum of the
+    /// coefficients times the variables equals the constant. The objective equals such a sum less
+    /// its constant. Row and column must exist.
     #[inline(always)]
     pub fn fraction(&self, row: usize, column: usize) -> (i128, u128)
         requires row { row ≤ length self.now.basic }
@@ -163,9 +165,9 @@ impl<F: ExactField> Dict<F> {
         }
     }
 
-    /// The phase of the simplex method: 1 while variable 0 is basic or the opening pivot, in which
-    /// variable 0 enters, is required, and otherwise 2. If no right side is below 0, the phase is 2
-    /// from the start.
+    /// The phase of the simplex method: 1 if the artificial variable 0 is basic, or if the constant
+    /// of some basic variable is below 0, so that variable 0 must enter in the opening pivot;
+    /// otherwise 2.
     pub fn phase(&self) -> u8
         ensures { IsPhase (dictionary F.value self.now) result }
     {
@@ -188,9 +190,9 @@ impl<F: ExactField> Dict<F> {
         }
     }
 
-    /// The coefficient of the variable `other` in the row in which the variable `basic` is basic,
-    /// where the sum of the coefficients times the variables equals the constant. The result is 0
-    /// if `basic` is not basic, if `other` is basic, and if `other` is no variable.
+    /// The coefficient of variable `other` in the row in which `basic` is basic, where the sum of
+    /// the coefficients times the variables equals the constant. The result is 0 if `basic` is not
+    /// basic, if `other` is basic (also `basic` itself), and if `other` is no variable.
     pub fn entry(&self, basic: u32, other: u32) -> F
         ensures row { (k : ℕ) → slice_get self.now.basic k ≡ Some basic → ¬ (Contains self.now.basic other) → F.value result ≡
             entry_at (dictionary F.value self.now) k other }
@@ -204,10 +206,9 @@ impl<F: ExactField> Dict<F> {
         }
     }
 
-    /// The coefficient of variable `v` in the priced row, which is the row of variable 0 while
-    /// variable 0 is basic, and otherwise the objective. In the row of variable 0 the sum of the
-    /// coefficients times the variables equals the constant. The result is 0 if `v` is basic or no
-    /// variable.
+    /// The coefficient of variable `v` in the priced row, that of the artificial variable 0 while
+    /// it is basic, else the objective. In the row of variable 0 the sum of the coefficients times
+    /// the variables equals the constant. The result is 0 if `v` is basic or no variable.
     pub fn coefficient(&self, v: u32) -> F
         ensures priced { (k : ℕ) → IsPriced (dictionary F.value self.now) k → ¬ (Contains self.now.basic v) → F.value result ≡
             entry_at (dictionary F.value self.now) k v }
@@ -220,10 +221,10 @@ impl<F: ExactField> Dict<F> {
         }
     }
 
-    /// Whether variable `v` improves: it is not basic and not variable 0, and its coefficient in
-    /// the priced row is above 0. The priced row is that of variable 0 while variable 0 is basic,
-    /// and otherwise the objective. A row equates the sum of its terms with a constant, so variable
-    /// 0 falls as such a variable rises. False if `v` is no variable.
+    /// Whether variable `v` improves: it is neither basic nor variable 0, and has a coefficient
+    /// above 0 in the priced row, that of the artificial variable 0 while it is basic, else the
+    /// objective. The row of variable 0 equates the sum of its terms with a constant, so variable 0
+    /// falls as an improving variable rises. False if `v` is no variable.
     pub fn improves(&self, v: u32) -> bool
         ensures { IsTrue result ↔ Improves (dictionary F.value self.now) v }
     {
@@ -239,9 +240,9 @@ impl<F: ExactField> Dict<F> {
         is_above_zero(self.coefficient(v))
     }
 
-    /// The opening pivot, in which variable 0 enters, by Bland's choice: of the basic variables
-    /// with the least constant, which is below 0, the one with the least number leaves. `None`
-    /// exactly if no constant is below 0, so that no opening pivot is required.
+    /// The opening pivot by Bland's choice: the artificial variable 0 enters, and of the basic
+    /// variables with the least constant the one with the least number leaves. `None` exactly if no
+    /// basic variable's constant is below 0: no opening pivot is required.
     pub fn opening(&self) -> Option<Pivot>
         ensures { MatchOption result (¬ (OpeningIsRequired (dictionary F.value self.now)))
             (λ p. ((k : ℕ) × IsOpening (dictionary F.value self.now) p k) ×
@@ -253,12 +254,11 @@ impl<F: ExactField> Dict<F> {
         }
     }
 
-    /// The variable with the least number of those that improve, that is, are neither basic nor
-    /// variable 0 and have a coefficient above 0 in the priced row; `None` exactly if none
-    /// improves. The priced row is that of variable 0 while variable 0 is basic, and otherwise the
-    /// objective. A row equates the sum of its terms with a constant, so variable 0 falls as such a
-    /// variable rises. The opening pivot must not be required, that is, no row's constant is below
-    /// 0.
+    /// The improving variable with the least number; `None` exactly if no variable improves. A
+    /// variable improves if it is neither basic nor variable 0 and has a coefficient above 0 in the
+    /// priced row, that of the artificial variable 0 while it is basic, else the objective. The row
+    /// of variable 0 equates the sum of its terms with a constant, so variable 0 falls as an
+    /// improving variable rises. No basic variable's constant may be below 0.
     pub fn entering(&self) -> Option<u32>
         requires { ¬ (OpeningIsRequired (dictionary F.value self.now)) }
         ensures { MatchOption result ((v : ℕ) → ¬ (Improves (dictionary F.value self.now) v))
@@ -270,12 +270,12 @@ impl<F: ExactField> Dict<F> {
         }
     }
 
-    /// The variable that improves with the greatest coefficient in the priced row, and of several
-    /// such variables the one with the least number; `None` exactly if none improves. A variable
-    /// improves if it is neither basic nor variable 0 and its coefficient is above 0. The priced
-    /// row is that of variable 0 while variable 0 is basic, and otherwise the objective. A row
-    /// equates the sum of its terms with a constant, so variable 0 falls as such a variable rises.
-    /// The opening pivot must not be required, that is, no row's constant is below 0.
+    /// The improving variable with the greatest coefficient in the priced row, of those that tie
+    /// the one with the least number; `None` exactly if no variable improves. A variable improves
+    /// if it is neither basic nor variable 0 and its coefficient in the priced row is above 0. This
+    /// row is that of the artificial variable 0 while that is basic, and else the objective.
+    /// The row of variable 0 equates its terms' sum with a constant, so variable 0 falls as an
+    /// improving variable rises. No basic variable's constant may be below 0.
     pub fn greatest(&self) -> Option<u32>
         requires { ¬ (OpeningIsRequired (dictionary F.value self.now)) }
         ensures { MatchOption result ((v : ℕ) → ¬ (Improves (dictionary F.value self.now) v)) (HasGreatest (dictionary F.value self.now)) }
@@ -288,11 +288,11 @@ impl<F: ExactField> Dict<F> {
 
     /// The variable that leaves when the variable `enter` enters: of those that tie in the ratio
     /// test the one with the least number. `None` exactly if no row limits the rise of `enter`. The
-    /// caller must ensure that `enter` improves (`improves`): while variable 0 is basic, its rise
-    /// lowers variable 0; otherwise its rise raises the objective.
+    /// variable `enter` must improve: a rise of `enter` lowers the artificial variable 0 while
+    /// variable 0 is basic, and otherwise raises the objective.
     ///
-    /// The only error is `Limit`, with the first ratio of the test whose numerator or denominator
-    /// is beyond the limit of the field.
+    /// The only error is `Limit`, with the first ratio, in the order of the rows, whose numerator
+    /// or denominator is above `F.limit`.
     pub fn leaving(&self, enter: u32) -> Result<Option<u32>, Stop>
         requires { Improves (dictionary F.value self.now) enter }
         ensures fits { IfOk result (λ _. AllFit (ratio_steps F.limit self.now.upcoming (dictionary F.value self.now) enter)) }
@@ -305,20 +305,22 @@ impl<F: ExactField> Dict<F> {
         }
     }
 
-    /// The dictionary after the pivot `p`: `p.enter` becomes basic in the row of `p.leave`. The
-    /// pivot must be legal. If some constant is below 0, it is an opening pivot: variable 0 enters,
-    /// and a basic variable with the least constant leaves. Else a variable that improves (one
-    /// whose rise raises the objective or, while variable 0 is basic, lowers that) enters, and one
-    /// that ties in the ratio test leaves, variable 0 if it ties. If variable 0 leaves, its
-    /// coefficients become 0. Rows in which `p.enter` does not occur are otherwise unchanged. A
-    /// point, with variable 0 at 0 if that leaves, satisfies the dictionary after the pivot exactly
-    /// if it satisfies the one before. After the pivot no opening pivot is required, and the number
-    /// of the next pivot is one more, at most 2^64 - 1.
+    /// The dictionary after the legal pivot `p`: `p.enter` becomes basic in the row of `p.leave`.
+    /// If some basic variable's constant is below 0, `p` is an opening pivot: the artificial
+    /// variable 0 enters, and a basic variable with the least constant leaves. Otherwise an
+    /// improving variable enters (`improves`), and a variable that ties in the ratio test leaves:
+    /// variable 0, if it ties.
     ///
-    /// The error `Limit` has the first step that computes a numerator or a denominator beyond the
-    /// limit of the field. The steps of the row of `p.leave` come first, then those of the other
-    /// rows in order, and those of the objective last. `Memory` means out of memory, and `Crossed`,
-    /// for bounds that cross, does not occur. After an error the dictionary is lost.
+    /// If variable 0 leaves, its coefficients become 0. Apart from this, a row in which `p.enter`
+    /// has coefficient 0 is unchanged. A point (with variable 0 at 0 if variable 0 leaves)
+    /// satisfies the dictionary after the pivot, with the same objective, exactly if it satisfies
+    /// the one before. After the pivot no opening pivot is required. The next pivot's number rises
+    /// by 1, unless it is 2^64 - 1 already.
+    ///
+    /// The error `Limit` has the first step that computes a numerator or a denominator above
+    /// `F.limit` in magnitude. The steps of the row of `p.leave` come first, then those of the
+    /// other rows in order, and those of the objective last. `Memory` means out of memory.
+    /// `Crossed` does not occur. After an error the dictionary is lost.
     pub fn pivot(self, alloc: Global, p: Pivot) -> Result<Dict<F>, Stop>
         requires { (k : ℕ) × IsLegal (dictionary F.value self) p k }
         ensures exchanged { IfOk result (λ after. (k : ℕ) → slice_get self.basic k ≡ Some p.leave →
@@ -391,17 +393,15 @@ impl<F: ExactField> Dict<F> {
         }
     }
 
-    /// What is read from the final dictionary: how the search ends (the kind), the value of each
-    /// variable, its coefficient in the priced row, and the ray. The priced row is that of variable
-    /// 0 while variable 0 is basic, and otherwise the objective.
+    /// What is read from the final dictionary: the kind of the end, each variable's value and
+    /// coefficient in the priced row, and the ray, empty if `enter` is `None`. The priced row is
+    /// that of the artificial variable 0 while it is basic (phase 1), else the objective (phase 2).
     ///
-    /// One of these must be true of `enter`:
-    /// - It is a variable that improves in phase 2, and no row limits its rise. The kind is
-    ///   `Unbounded`, and the ray is the change of each variable when `enter` rises by 1.
-    /// - It is `None`, and no variable improves. The kind is `Optimal` in phase 2 and `Infeasible`
-    ///   in phase 1. The ray is empty.
-    /// - It is `None`, and a variable improves in phase 2. The kind is `Interrupted`. The ray is
-    ///   empty.
+    /// No opening pivot may be required, and one of these must be true of `enter`:
+    /// - In phase 2 it is an improving variable whose rise no row limits. The kind is `Unbounded`,
+    ///   and the ray is each variable's change when `enter` rises by 1.
+    /// - It is `None`, and no variable improves: `Optimal` in phase 2, `Infeasible` in phase 1.
+    /// - In phase 2 it is `None`, and a variable improves: `Interrupted`.
     ///
     /// The only error is out of memory.
     pub fn done(&self, alloc: Global, enter: Option<u32>) -> Result<Final<F>, AllocError>

@@ -25,11 +25,11 @@ abbrev pub IsUnchangedByFault : {F : Type 0} → Affine F → Affine F → FormF
 IsUnchangedByFault before now (fault.Limit key) = now ≡ before
 IsUnchangedByFault before now fault.Memory = Unit {0}
 
--- The answer of adding listed numbers, each at its key, to the numbers of a sum, which has `at key`
--- at each key. An addition fits if no integer that it computes exceeds `limit` in magnitude. Ok:
--- each addition fits, and the results are the totals at the listed keys. Limit: the first key in
--- order whose addition does not fit; Limit without a key is no answer. Memory, which is out of
--- memory, may be the answer at any time.
+-- The answer of adding `numbers`, each at its key in `keys`, to a sum, which has the number `at
+-- key` at each key. An addition fits if no integer that it computes exceeds `limit` in magnitude.
+-- Ok: each addition fits, and the results are the totals at the listed keys. Limit: the first key
+-- in order whose addition does not fit; Limit without a key is no answer. Memory (out of memory)
+-- may be the answer at any time.
 abbrev pub Sums : {F : Type 0} → (F → Number) → ℕ → (Key → Number) → List Key → List F → Result (List F) FormFault → Type 0
 Sums value limit at keys numbers (Ok sums) =
     (length sums ≡ length keys) × ((key : Key) → number_or value (at key) keys sums key ≡ at key +ℚ number_at value keys numbers key) × ((key : Key) → sum_fits limit (at key) (number_at value keys numbers key) ≡ true)

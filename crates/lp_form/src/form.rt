@@ -17,7 +17,7 @@ use std::marker::Model;
 /// the order of keys. A key is an element of a symbol, such as `x(seattle,chicago)`.
 ///
 /// The left side of `cost.. z - 2*x =e= 5;` is the form with the constant 0, the coefficient 1 at
-/// `z` and -2 at `x`. A key that the form does not have counts as one with the coefficient 0.
+/// `z` and -2 at `x`. At a key that the form does not have, its coefficient is 0.
 pub struct Form<F: ExactField> {
     constant: F,
     keys: Vec<Key>,
@@ -122,14 +122,14 @@ impl<F: ExactField> Form<F> {
         })
     }
 
-    /// Adds the form `o` to this form: its constant to the constant, and its coefficient of each
-    /// key to this form's coefficient of the key. A key whose sum is 0 is no longer a key.
+    /// Adds the form `o` to this form: constant to constant, and coefficient to coefficient at each
+    /// key, 0 if absent. A key whose sum is 0 is dropped.
     ///
-    /// On success each of these sums fits: no number computed on the way to it is beyond the
-    /// field's limit. `Limit` names the first sum that does not fit: the constant comes first
-    /// (`None`), then the keys in order. Whether all fit or not, the fault may be out of memory.
-    /// After a fault this form is unchanged. If all keys of `o` come after those of this form, the
-    /// time depends on the entries of `o` alone.
+    /// An addition fits if no integer that it computes exceeds the field's limit in magnitude. On
+    /// success all additions fit. `Limit` names the first that does not fit: the constant (`None`)
+    /// comes first, then the keys in order. Out of memory can always occur. After either fault this
+    /// form is unchanged. If all keys of `o` come after those of this form, the time depends on the
+    /// entries of `o` alone.
     pub fn add_assign(&mut self, alloc: Global, o: &Form<F>) -> Result<(), FormFault>
         ensures value { IsEntrywiseAnswer F.value (of_two (sum_form_step F.limit) F.value self.old o.now)
             (result_map_both (λ _. self.new) (λ fault. fault) result) }
@@ -149,10 +149,10 @@ impl<F: ExactField> Form<F> {
         Ok(())
     }
 
-    /// The sum of this form and the form `o`: of the constants, and of the coefficients of each
-    /// key. On success each of these sums fits: no number computed on the way to it is beyond the
-    /// field's limit. `Limit` names the first sum that does not fit: the constant comes first
-    /// (`None`), then the keys in order. Whether all fit or not, the fault may be out of memory.
+    /// The sum of this form and the form `o`: of the constants and, at each key, of the
+    /// coefficients. A sum fits if no number computed on the way to it exceeds the field's limit in
+    /// magnitude. On success all sums fit. `Limit` names the first that does not fit: the constant
+    /// (`None`) comes first, then the keys in order. Out of memory can always occur.
     pub fn add(&self, alloc: Global, o: &Form<F>) -> Result<Form<F>, FormFault>
         ensures { IsEntrywiseAnswer F.value (of_two (sum_form_step F.limit) F.value self.now o.now) result }
     {
@@ -161,13 +161,13 @@ impl<F: ExactField> Form<F> {
         Ok(sum)
     }
 
-    /// This form minus the form `o`: the difference of the constants, and of the coefficients of
-    /// each key.
+    /// This form minus the form `o`: the difference of the constants and, at each key, of the
+    /// coefficients, 0 if absent.
     ///
-    /// On success each difference, as the sum of a number and a negated one, fits: no number
-    /// computed on the way to it is beyond the field's limit. `Limit` names the first that does not
-    /// fit: the constant comes first (`None`), then the keys in order. Whether all fit or not, the
-    /// fault may be out of memory.
+    /// A difference x - y fits if no integer that the addition of x and -y computes exceeds the
+    /// field's limit in magnitude. On success all differences fit. `Limit` names the first that
+    /// does not fit: the constant (`None`) comes first, then the keys in order. Out of memory can
+    /// always occur.
     pub fn sub(&self, alloc: Global, o: &Form<F>) -> Result<Form<F>, FormFault>
         ensures { IsEntrywiseAnswer F.value (of_two (difference_step F.limit) F.value self.now o.now) result }
     {
@@ -175,21 +175,20 @@ impl<F: ExactField> Form<F> {
         self.add(alloc, &negated)
     }
 
-    /// This form multiplied by `v`: the constant and each coefficient times `v`. On success each of
-    /// these products fits: its reduced numerator and denominator are at most the field's limit.
-    /// `Limit` names the first that does not fit: the constant comes first (`None`), then the keys
-    /// in order. Whether all fit or not, the fault may be out of memory.
+    /// This form times `v`: the constant and each coefficient times `v`. A product fits if its
+    /// reduced numerator and denominator are at most the field's limit in magnitude. On success all
+    /// products fit. `Limit` names the first that does not fit: the constant (`None`) comes first,
+    /// then the keys in order. Out of memory can always occur.
     pub fn scale(&self, alloc: Global, v: F) -> Result<Form<F>, FormFault>
         ensures { IsEntrywiseAnswer F.value (by_number (product_form_step F.limit) F.value self.now (F.value v)) result }
     {
         self.after(alloc, Operation::Times(v))
     }
 
-    /// This form divided by `v`, which is required not to be 0: the constant and each coefficient
-    /// divided by `v`. On success each of these quotients fits: its reduced numerator and
-    /// denominator are at most the field's limit. `Limit` names the first that does not fit: the
-    /// constant comes first (`None`), then the keys in order. Whether all fit or not, the fault may
-    /// be out of memory.
+    /// This form divided by `v`, which must not be 0: the constant and each coefficient over `v`. A
+    /// quotient fits if its reduced numerator and denominator are at most the field's limit in
+    /// magnitude. On success all quotients fit. `Limit` names the first that does not fit: the
+    /// constant (`None`) comes first, then the keys in order. Out of memory can always occur.
     pub fn divide(&self, alloc: Global, v: F) -> Result<Form<F>, FormFault>
         requires { F.value v ≢ whole (pos 0) }
         ensures { IsEntrywiseAnswer F.value (by_number (quotient_step F.limit) F.value self.now (F.value v)) result }

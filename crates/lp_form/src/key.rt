@@ -7,8 +7,8 @@ use std::alloc::{AllocError, Global};
 /// An element of a symbol, such as `x(seattle,chicago)`: the symbol by its number, and the tuple of
 /// labels.
 ///
-/// Keys are ordered by the numbers of their symbols, and those of one symbol by their tuples: label
-/// by label, each by its number.
+/// Keys are ordered by the numbers of their symbols, then lexicographically by their labels'
+/// numbers.
 #[derive(PartialEq, Eq, PartialOrd, Ord)]
 pub struct Key {
     /// The symbol, by its number.

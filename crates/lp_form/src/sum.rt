@@ -21,11 +21,11 @@ use std::mem;
 /// A sum with at most this many entries is stored as a form, whatever is added.
 const FEW: usize = 16;
 
-/// A sum of affine forms. Each form is a constant and its entries: in order, keys (elements of
-/// variables) with coefficients other than 0. Contracts view the sum as the form that it equals.
+/// A sum of affine forms. Each form is a constant and entries by ascending key: a key (an element
+/// of a variable) and its coefficient, not 0. Contracts view the sum as the form that it equals.
 ///
-/// Adding a form of n entries to a sum of m entries takes steps in proportion to n log m, or to n
-/// if all keys of the form come after those of the sum.
+/// Adding a form of n entries to a sum of m takes time in proportion to n log m, or to n if all
+/// keys of the form come after those of the sum.
 #[derive(Drop)]
 pub struct FormSum<F: ExactField> {
     kept: Kept<F>,
@@ -85,13 +85,13 @@ impl<F: ExactField> FormSum<F> {
         }
     }
 
-    /// Adds the form `o` to this sum: its constant to the constant, and its coefficient of each key
-    /// to the sum's coefficient of the key.
+    /// Adds the affine form `o` to this sum: constant to constant, and coefficient to coefficient
+    /// at each key, 0 if absent.
     ///
-    /// Each of these additions is a step. If a step exceeds the field's limit of numerators and
-    /// denominators, the sum is unchanged. The error `Limit` then has the key of the first such
-    /// step, in the order of keys, or `None` if it is the step of the constant, which comes before
-    /// the keys. If memory runs out, the sum may have any value.
+    /// An addition fits if no integer that it computes exceeds the field's limit in magnitude. On
+    /// success all additions fit. `Limit` names the first that does not fit: the constant (`None`)
+    /// comes first, then the keys in order. With `Limit` the sum is unchanged. If memory runs out,
+    /// which can always occur, the sum may have any value.
     pub fn add_assign(&mut self, alloc: Global, o: &Form<F>) -> Result<(), FormFault>
         ensures value { IsEntrywiseAnswer F.value (of_two (sum_form_step F.limit) F.value self.old o.now)
             (result_map_both (λ _. self.new) (λ fault. fault) result) }

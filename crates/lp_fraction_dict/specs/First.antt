@@ -27,7 +27,8 @@ pub record IsInForm (s : form.Standard) : Type 0 where
 
 -- The stored rows `made` are the first n rows of the first dictionary of a standard form with these
 -- `rows`. `needed` says whether phase 1 is needed, and `slack` is the number of the first row's
--- slack variable. Row k has entries up to column `slack + k + 1`, that of its slack variable.
+-- slack variable. Row k has entries up to column `slack + k + 1`, the column of its slack variable,
+-- which has the number `slack + k`.
 pub record AreFirst {F : Type 0} (value : F → Number) (needed : Bool) (slack : ℕ) (rows : List form.StandardRow) (made : List (List (Entry F))) (n : ℕ) : Type 0 where
   pub sized : length made ≡ n
   pub each : (k : ℕ) → k < n → IsFilled value (first_row needed (slack + k) (slice_index_or rows k no_row)) (slack + k + 2) (slice_index_or made k [])

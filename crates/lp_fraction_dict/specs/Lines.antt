@@ -23,7 +23,8 @@ entries_of_rows rows = map (λ row. row.items) rows
 abbrev pub line : {F : Type 0} → List (List (Entry F)) → List (Entry F) → ℕ → List (Entry F)
 line rows objective i = slice_index_or rows i objective
 
--- the number that a step's name has for a product or quotient (0) and for a difference (1)
+-- the last number of `Exchange`, the name of a step in a pivot: 0 for a product or a quotient, 1
+-- for a difference
 abbrev pub part_number : Part → ℕ
 part_number part.Product = 0
 part_number part.Difference = 1
@@ -64,26 +65,25 @@ pub record AreExchanged {F : Type 0} (value : F → Number) (limit high column :
   pub sized : length after ≡ length before
   pub each : (i : ℕ) → i < length before → IsLessened value limit high (slice_index_or before i []) (number_in value (slice_index_or before i []) column) pivot_row (slice_index_or after i [])
 
--- From each row of `before` its number at `column` times the pivot row is subtracted. The first
--- step that does not fit under the limit of numerators and denominators is in row i at the column
--- `at`, below `high`; p says whether it is a product or a difference. All steps of the rows before
--- row i fit.
+-- From each row of `before` the pivot row, times the row's number at `column`, is subtracted. The
+-- first step with a numerator or denominator above `limit` is in row i at the column `at`, below
+-- `high`; p says whether it is a product or a difference. All steps of the rows before row i fit.
 pub record IsFirstLine {F : Type 0} (value : F → Number) (limit high column : ℕ) (pivot_row : List (Entry F)) (before : List (List (Entry F))) (i at : ℕ) (p : Part) : Type 0 where
   pub within : i < length before
   pub fit : (j : ℕ) → j < i → LineFits value limit column pivot_row (slice_index_or before j [])
   pub here : IsFirstMisfit value limit high (slice_index_or before i []) (number_in value (slice_index_or before i []) column) pivot_row at p
 
--- The exchange of a row and a column, whose steps all fit under the limit of numerators and
--- denominators: the row at `place` is divided by its number at `column`, and from every other row
--- its number at `column` times the divided row is subtracted. `before` and `after` give each row by
--- its index; the columns of `after` are below `high`.
+-- The exchange at `place` and `column`: the row at `place` is divided by its number at `column`;
+-- from each other row its number at `column` times the divided row is subtracted. All numerators
+-- and denominators of the results are at most `limit`. `before` and `after` give each row by its
+-- index; the columns of `after` are below `high`.
 pub record IsTurned {F : Type 0} (value : F → Number) (limit high : ℕ) (before : ℕ → List (Entry F)) (place column : ℕ) (after : ℕ → List (Entry F)) : Type 0 where
   pub divided : IsDivided value limit high (before place) (number_in value (before place) column) (after place)
   pub others : (i : ℕ) → i ≢ place → IsLessened value limit high (before i) (number_in value (before i) column) (after place) (after i)
 
--- In the exchange of the row at `place` and the column `column`, all quotients of the row at
--- `place` fit under the limit of numerators and denominators. The first step that does not is in
--- another row, i, at the column `at`, below `high`; p says whether it is a product or a difference.
+-- In the exchange of the row at `place` and the column `column`, all quotients of this row fit
+-- under the limit of numerators and denominators. The first step that does not fit is in another
+-- row, i, at the column `at`, below `high`; p says whether it is a product or a difference.
 -- `pivot_row` is the row at `place` divided by its number at `column`.
 pub record IsStoppedInOtherLine {F : Type 0} (value : F → Number) (limit high : ℕ) (before : ℕ → List (Entry F)) (place column i at : ℕ) (p : Part) : Type 0 where
   pub pivot_row : List (Entry F)
@@ -92,11 +92,10 @@ pub record IsStoppedInOtherLine {F : Type 0} (value : F → Number) (limit high 
   pub fit : (j : ℕ) → j < i → j ≢ place → LineFits value limit column pivot_row (before j)
   pub here : IsFirstMisfit value limit high (before i) (number_in value (before i) column) pivot_row at p
 
--- the first step that does not fit under the limit of numerators and denominators, in the exchange
--- of the row at `place` and the column `column`, is in row i at the column `at`, below `high`: a
--- quotient of the row at `place`, or, if these all fit, a product or difference of another row; p
--- says which, Product for a quotient too. `before` has the rows before the exchange, each with
--- `high` columns
+-- in the exchange of the row at `place` and the column `column`, the first step with a numerator or
+-- denominator above `limit` is in row i at the column `at`, below `high`: a quotient of the row at
+-- `place`, or, if none of these is, a product or difference of another row. p says which; it is
+-- Product for a quotient too. `before` has the rows before the exchange, each with `high` columns
 abbrev pub IsFirstTurn : {F : Type 0} → (F → Number) → ℕ → ℕ → (ℕ → List (Entry F)) → ℕ → ℕ → ℕ → ℕ → Part → Type 0
 IsFirstTurn value limit high before place column i at p =
     ((i ≡ place) × IsFirstUndivided value limit high (before place) (number_in value (before place) column) at p)
@@ -106,7 +105,8 @@ IsFirstTurn value limit high before place column i at p =
 abbrev pub without : {F : Type 0} → ℕ → List (Entry F) → List (Entry F)
 without {F} column row = filter (λ (e : Entry F). not (e.column == column)) row
 
--- a row after an exchange in which the variable `leave` leaves: if that is variable 0, the row
--- without its entry in column 1, the column of variable 0; else the row unchanged
+-- what is kept of a row that results from an exchange in which the variable `leave` leaves: if that
+-- is variable 0, the row without its entry in column 1, the column of variable 0; else the whole
+-- row
 abbrev pub kept_after : {F : Type 0} → ℕ → List (Entry F) → List (Entry F)
 kept_after leave row = if leave == 0 then without 1 row else row

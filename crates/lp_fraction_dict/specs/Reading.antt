@@ -26,9 +26,9 @@ module _ {F : Type 0} (value : F → Number) where
     pub sized : length list ≡ count
     pub each : (v : ℕ) → v < count → value_of_column (map value list) v ≡ number_in value (take n row) (v + 1)
 
-  -- The list has the change of each variable if the variable `enter` rises by 1: 1 for itself, and
-  -- for another the negated entry of `numbers`, which has the coefficient of `enter` in each
-  -- variable's row.
+  -- The list has the change of each variable if the variable `enter` rises by 1: 1 for `enter`, and
+  -- for any other variable its negated number in `numbers`. There a variable has the coefficient of
+  -- `enter` in its row, or 0 without a row.
   pub record AreChanges (numbers : List F) (enter : ℕ) (list : List F) : Type 0 where
     pub sized : length list ≡ length numbers
     pub enters : value_of_column (map value list) enter ≡ whole (pos 1)

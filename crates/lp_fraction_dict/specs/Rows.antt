@@ -69,8 +69,9 @@ abbrev pub PushesUnlessZero : {F : Type 0} → (F → Number) → ℕ → F → 
 PushesUnlessZero value column number before now =
     ((value number ≢ whole (pos 0)) × (now ≡ before ++ record { column = column; number = number } ∷ [])) ⊎ ((value number ≡ whole (pos 0)) × (now ≡ before))
 
--- Q holds of the column at which a step does not fit and of the part, which says whether the step
--- is a product (or quotient) or a difference; out of memory makes no claim
+-- Q holds of the column of the step that exceeds the limit on the size of numbers, and of its part,
+-- which says whether the step is a product (or quotient) or a difference; out of memory makes no
+-- claim
 abbrev pub InRow : (ℕ → Part → Type 0) → RowFault → Type 0
 InRow Q (fault.Limit column part) = Q column part
 InRow Q fault.Memory = Unit {0}

@@ -8,7 +8,7 @@ use Rattle.lp_fraction_dict.specs.Rows.{IsRow, number_in}
 use Rattle.lp_fraction_dict.specs.Lines.{line}
 
 -- A stored dictionary: the basic variable of each row, the rows and the objective by entries that
--- are not 0, and `upcoming`, the number that the next pivot has in the names of its steps.
+-- are not 0, and `upcoming`, the ordinal of the next pivot.
 pub record FractionTableau (F : Type 0) : Type 0 where
   -- the greatest number of a variable
   pub variables : ℕ
@@ -33,7 +33,7 @@ fraction_dictionary value t =
 
 -- The invariant of a tableau: a row for each basic variable, all entries in order and at columns of
 -- the dictionary, no more rows than variables other than 0, column numbers of at most 32 bits, and
--- the invariant of a program's dictionaries.
+-- what `IsProper` states of the dictionary that it stores.
 pub record IsTableau {F : Type 0} (value : F → Number) (t : FractionTableau F) : Type 0 where
   pub sized : t.variables + 2 < 2 ^ 32
   pub few : length t.basic ≤ t.variables

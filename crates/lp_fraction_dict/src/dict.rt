@@ -30,12 +30,12 @@ use lp_std::{Standard, Stop};
 use std::alloc::{AllocError, Global};
 use std::marker::Model;
 
-/// A dictionary whose numbers are stored as fractions: an equation for each basic variable, and the
-/// objective (Chvatal, Linear Programming, chapters 2 and 3). In a row the sum of the coefficients
-/// times the variables equals the constant. The objective equals its sum less its constant.
+/// A dictionary whose numbers are stored as fractions: an equation (row) for each basic variable,
+/// and the objective (Chvatal, Linear Programming, chapters 2 and 3). In a row the sum of the
+/// coefficients times the variables is the constant. The objective is such a sum less its constant.
 ///
-/// Each row stores only the numbers other than 0, as reduced fractions. Variable 0 is the
-/// artificial variable of phase 1.
+/// Only numbers other than 0 are stored, as reduced fractions. Variable 0 is the artificial
+/// variable of phase 1.
 #[derive(Drop)]
 pub struct ExactDict<F: ExactField> {
     variables: u32,
@@ -83,10 +83,16 @@ fn first_above<F: ExactField>(row: &[Entry<F>]) -> Option<u32>
 }
 
 impl<F: ExactField> ExactDict<F> {
-    /// The dictionary with these rows and this objective; `basic` has the basic variable of each
-    /// row. The entries of a row are by ascending column, and all together satisfy the invariant
-    /// that `keeps` states. `variables` is the greatest number of a variable. `upcoming` is the
-    /// number of the next pivot, from 1, by which the steps of that pivot are named.
+    /// The dictionary with these rows and this objective. `basic` has the basic variable of each
+    /// row, `variables` is the greatest number of a variable, and `upcoming` is the number of the
+    /// next pivot, from 1. Column 0 is for the constants, and column v + 1 for variable v.
+    ///
+    /// The caller must prove that the entries of the objective and of each row are not 0, ascend by
+    /// column, and have no column above `variables + 1`. Each basic variable must occur only in its
+    /// own row, with coefficient 1. Variable 0 must have coefficient -1 in each row if some row's
+    /// constant is below 0. If variable 0 is basic, its row's constant must be above 0. There must
+    /// be as many rows as basic variables, and at most `variables`; `variables` must be below
+    /// 2^32 - 2.
     pub fn of_rows(
         variables: u32,
         basic: Vec<u32>,
@@ -106,12 +112,13 @@ impl<F: ExactField> ExactDict<F> {
         }
     }
 
-    /// A law: each dictionary satisfies its invariant. It has a row for each basic variable, and
-    /// the entries of each row are by ascending column. The basic variables are distinct, and each
-    /// occurs in its own row alone, with coefficient 1. If the opening pivot, in which variable 0
-    /// enters, is required, variable 0 has coefficient -1 in each row. While variable 0 is basic,
-    /// its constant is above 0. There are no more rows than the greatest number of a variable, and
-    /// the number of a column has at most 32 bits.
+    /// A law: each dictionary satisfies its invariant. It has a row for each basic variable, and an
+    /// objective, which is no row. Rows and objective have entries by ascending column, none 0. The
+    /// basic variables are distinct. Each has coefficient 1 in its own row, and 0 in the other rows
+    /// and in the objective. If some row's constant is below 0, variable 0 has coefficient -1 in
+    /// each row. While variable 0 is basic, the constant of its row is above 0. With n the greatest
+    /// number of a variable, there are at most n rows, and n + 2 columns with that of the
+    /// constants; n + 2 is below 2^32.
     pub fn keeps(&self)
         ensures { IsTableau F.value self.now }
     {
@@ -148,10 +155,10 @@ impl<F: ExactField> ExactDict<F> {
         self.objective.as_slice()
     }
 
-    /// The first dictionary of the standard form of a well-formed program, in which the slacks are
-    /// basic. If some right side is below 0, variable 0 occurs in each row, and the opening pivot,
-    /// in which variable 0 enters, is required. The next pivot has the number 1. The only error is
-    /// out of memory.
+    /// The first dictionary of `s`, the standard form of a well-formed linear program; the slacks
+    /// are basic. If some right side is below 0, variable 0 has coefficient -1 in each row, and
+    /// must enter in the opening pivot. The next pivot has the number 1. The only error is out of
+    /// memory.
     pub fn of(alloc: Global, s: &Standard<F>) -> Result<ExactDict<F>, AllocError>
         requires { (lp : Lp F) × IsWellFormed F.value lp × (standard_value F.value s.now ≡ standard_form F.value lp) }
         ensures first { IfOk result (λ d. fraction_dictionary F.value d ≡ first_dictionary (standard_value F.value s.now)) }
@@ -189,9 +196,10 @@ impl<F: ExactField> ExactDict<F> {
     }
 
     /// The coefficient of the variable `other` in the row in which `basic` is basic. A row is an
-    /// equation: the sum of all coefficients times their variables is the constant, and the
-    /// coefficient of the basic variable is 1. The result is 0 if `basic` is not basic, if `other`
-    /// is basic, and if `other` is no variable, that is, exceeds the greatest number of a variable.
+    /// equation: the sum of all coefficients times their variables is the constant. The result is 0
+    /// if `other` is basic, even if `other` is `basic` itself, whose coefficient in the row is 1.
+    /// The result is also 0 if `basic` is not basic, and if `other` is no variable, that is,
+    /// exceeds the greatest number of a variable.
     pub fn entry(&self, basic: u32, other: u32) -> F
         ensures row { (k : ℕ) → slice_get self.now.basic k ≡ Some basic → ¬ (Contains self.now.basic other) → F.value result ≡
             entry_at (fraction_dictionary F.value self.now) k other }
@@ -211,10 +219,10 @@ impl<F: ExactField> ExactDict<F> {
         }
     }
 
-    /// The coefficient of variable `v` in the priced row. This is the row of variable 0 while
-    /// variable 0 is basic, in which the sum of the terms equals the constant; else it is the
-    /// objective. The result is 0 if `v` is basic or no variable, that is, exceeds the greatest
-    /// number of a variable.
+    /// The coefficient of variable `v` in the priced row. While variable 0 is basic, the priced row
+    /// is that of variable 0, in which the sum of the terms equals the constant. Otherwise it is
+    /// the objective, which equals the sum of its terms less its constant. The result is 0 if `v`
+    /// is basic or no variable, that is, exceeds the greatest number of a variable.
     pub fn coefficient(&self, v: u32) -> F
         ensures priced { (k : ℕ) → IsPriced (fraction_dictionary F.value self.now) k → ¬ (Contains self.now.basic v) →
             F.value result ≡ entry_at (fraction_dictionary F.value self.now) k v }
@@ -233,9 +241,9 @@ impl<F: ExactField> ExactDict<F> {
         }
     }
 
-    /// The opening pivot of Bland's choice: variable 0 enters. Of the basic variables whose rows
-    /// have the least constant, which is below 0, the one with the least number leaves. `None`
-    /// exactly if no constant is below 0.
+    /// The opening pivot by Bland's choice: variable 0 enters, and of the basic variables whose
+    /// rows have the least constant, the one with the least number leaves. `None` exactly if no
+    /// row's constant is below 0; the objective is no row.
     pub fn opening(&self) -> Option<Pivot>
         ensures { MatchOption result (¬ (OpeningIsRequired (fraction_dictionary F.value self.now)))
             (λ p. ((k : ℕ) × IsOpening (fraction_dictionary F.value self.now) p k) ×
@@ -251,11 +259,11 @@ impl<F: ExactField> ExactDict<F> {
         }
     }
 
-    /// The variable with the least number of those that improve, that is, are neither basic nor
-    /// variable 0 and have a coefficient above 0 in the priced row; `None` exactly if none
-    /// improves. The priced row is that of variable 0 while this is basic, else the objective. A
-    /// row equates the sum of its terms with a constant, so variable 0 falls as such a variable
-    /// rises. The opening pivot must not be required, that is, no row's constant is below 0.
+    /// The improving variable with the least number; `None` exactly if no variable improves. A
+    /// variable improves if it is neither basic nor variable 0 and has a coefficient above 0 in the
+    /// priced row: the row of variable 0 while this is basic, else the objective. The terms of a
+    /// row sum to its constant, so variable 0 falls as an improving variable rises. The caller must
+    /// prove that no row's constant is below 0.
     pub fn entering(&self) -> Option<u32>
         requires { ¬ (OpeningIsRequired (fraction_dictionary F.value self.now)) }
         ensures { MatchOption result ((v : ℕ) → ¬ (Improves (fraction_dictionary F.value self.now) v))
@@ -267,12 +275,12 @@ impl<F: ExactField> ExactDict<F> {
         }
     }
 
-    /// Of the variables that improve, the one with the greatest coefficient in the priced row, and
-    /// of several such variables the one with the least number; `None` exactly if none improves. A
-    /// variable improves if it is neither basic nor variable 0 and has a coefficient above 0 in the
-    /// priced row, which is that of variable 0 while this is basic, else the objective. A row
-    /// equates the sum of its terms with a constant, so variable 0 falls as such a variable rises.
-    /// The opening pivot must not be required, that is, no row's constant is below 0.
+    /// Of the improving variables, the one with the greatest coefficient in the priced row, and of
+    /// several the one with the least number; `None` exactly if none improves. The priced row is
+    /// that of variable 0 if variable 0 is basic, else the objective. A variable improves if it is
+    /// neither basic nor variable 0 and its coefficient in the priced row is above 0. The terms of
+    /// a row sum to its constant, so variable 0 falls as such a variable rises. The caller must
+    /// prove that no row's constant is below 0.
     pub fn greatest(&self) -> Option<u32>
         requires { ¬ (OpeningIsRequired (fraction_dictionary F.value self.now)) }
         ensures { MatchOption result ((v : ℕ) → ¬ (Improves (fraction_dictionary F.value self.now) v)) (HasGreatest (fraction_dictionary F.value self.now)) }
@@ -283,15 +291,14 @@ impl<F: ExactField> ExactDict<F> {
         }
     }
 
-    /// The variable that leaves when the variable `enter` enters: of those that tie in the ratio
-    /// test the one with the least number. `None` exactly if no row limits the rise of `enter`. The
-    /// caller must ensure that `enter` improves, that is, is neither basic nor variable 0 and has a
-    /// coefficient above 0 in the priced row (that of variable 0 while this is basic, else the
-    /// objective). A row equates the sum of its terms with a constant, so variable 0 falls as
-    /// `enter` rises.
+    /// The variable that leaves when `enter` enters. A row limits `enter` if its coefficient of
+    /// `enter` is above 0; its ratio is its constant over this coefficient. Of the basic variables
+    /// of rows with the least ratio the one with the least number leaves; `None` exactly if no row
+    /// limits `enter`.
     ///
-    /// The error `Limit` has the first ratio that is beyond the limit of the field. No other error
-    /// occurs.
+    /// `enter` must improve: it is neither basic nor variable 0. Its coefficient is above 0 in the
+    /// row of variable 0 if variable 0 is basic, else in the objective. `Limit`, the only error,
+    /// names the first row whose ratio has a numerator or denominator above the field's limit.
     pub fn leaving(&self, enter: u32) -> Result<Option<u32>, Stop>
         requires { Improves (fraction_dictionary F.value self.now) enter }
         ensures fits { IfOk result (λ _. AllFit (ratio_steps F.limit self.now.upcoming (fraction_dictionary F.value self.now) enter)) }
@@ -310,22 +317,21 @@ impl<F: ExactField> ExactDict<F> {
         }
     }
 
-    /// The dictionary after the pivot `p`, in which `p.enter` is basic in the row of `p.leave`. The
-    /// caller must ensure that `p` is legal: if some constant is below 0, variable 0 enters and a
-    /// basic variable with the least constant leaves; else a variable that improves (one whose rise
-    /// raises the objective or, while variable 0 is basic, lowers that) enters, and one that ties
-    /// in the ratio test leaves, variable 0 if it ties.
+    /// The dictionary after the legal pivot `p`: `p.enter` becomes basic in the row of `p.leave`.
+    /// If some row's constant is below 0, variable 0 enters, and the basic variable of a row with
+    /// the least constant leaves. Else a variable enters that is neither basic nor variable 0 and
+    /// has a coefficient above 0 in the row of variable 0, or in the objective if variable 0 is not
+    /// basic. A basic variable with the least ratio leaves: variable 0 if it has the least ratio.
     ///
-    /// If variable 0 leaves, its coefficients become 0. Rows without the entering variable are
-    /// otherwise unchanged. A point satisfies the dictionary after the pivot exactly if it
-    /// satisfies the one before; if variable 0 leaves, this holds for the points at which it is 0.
-    /// No row's constant is below 0 after the pivot. A dictionary of a standard form remains one of
-    /// this form.
+    /// If variable 0 leaves, its coefficients become 0. Rows without `p.enter` are otherwise
+    /// unchanged. A point satisfies the dictionary after the pivot, with the same objective,
+    /// exactly if it satisfies the one before. If variable 0 leaves, this holds for points at which
+    /// it is 0. After the pivot no row's constant is below 0. A dictionary of a standard form
+    /// remains one of this form. The next pivot's number rises by 1, up to 2^64 - 1.
     ///
-    /// The error `Limit` has the first step whose number is beyond the limit of the field. The
-    /// steps are in this order: those of the leaving variable's row, those of the other rows in
-    /// their order, and those of the objective. `Memory` means out of memory, and `Crossed` does
-    /// not occur. After an error the dictionary is lost.
+    /// `Limit` names the first step that computes a numerator or denominator above the field's
+    /// limit. The steps of the row of `p.leave` come first, then those of the other rows in order,
+    /// then those of the objective. `Memory` means out of memory. `Crossed` does not occur.
     pub fn pivot(self, alloc: Global, p: Pivot) -> Result<ExactDict<F>, Stop>
         requires { (k : ℕ) × IsLegal (fraction_dictionary F.value self) p k }
         ensures exchanged { IfOk result (λ after. (k : ℕ) → slice_get self.basic k ≡ Some p.leave →
@@ -375,9 +381,9 @@ impl<F: ExactField> ExactDict<F> {
         by_variable(alloc, self.rows.as_slice(), self.basic.as_slice(), count, 0)
     }
 
-    /// The coefficient of each variable, by its number, in the priced row; 0 for a basic variable.
-    /// The priced row is the row of variable 0 while variable 0 is basic, in which the sum of the
-    /// terms equals the constant; else it is the objective. The only error is out of memory.
+    /// The coefficient of each variable, by number, in the priced row; 0 for a basic variable. The
+    /// priced row is the objective unless variable 0 is basic; then it is the row of variable 0, in
+    /// which the sum of the terms equals the constant. The only error is out of memory.
     pub fn costs(&self, alloc: Global) -> Result<Vec<F>, AllocError>
         ensures { IfOk result (λ list. map F.value list.items ≡ (last_of (fraction_dictionary F.value self.now)).costs) }
     {
@@ -394,10 +400,9 @@ impl<F: ExactField> ExactDict<F> {
     /// the other nonbasic ones stay; an empty list if `enter` is `None`. The only error is out of
     /// memory.
     ///
-    /// The caller must ensure that a search may end here. With `enter`: variable 0 is not basic,
-    /// `enter` improves the objective, and no row limits its rise. With `None`: no constant is
-    /// below 0, and either no variable improves, or variable 0 is not basic and some variable
-    /// improves.
+    /// No row's constant may be below 0. A variable `enter` must not be variable 0. It must have a
+    /// coefficient above 0 in the objective and in no row, and variable 0 must not be basic. With
+    /// `None`, variable 0 must not be basic, or its row has no other coefficient above 0.
     pub fn ray(&self, alloc: Global, enter: Option<u32>) -> Result<Vec<F>, AllocError>
         requires { IsDone (fraction_dictionary F.value self.now) enter }
         ensures { IfOk result (λ list. map F.value list.items ≡ (last_with (fraction_dictionary F.value self.now) enter).changes) }

@@ -71,10 +71,9 @@ fn negate<F: ExactField>(list: &mut [F])
     }
 }
 
-/// The change of each variable if `enter`, which is not basic, rises by 1 and the other nonbasic
-/// ones stay. `numbers` has for each variable the coefficient of `enter` in the row in which that
-/// variable is basic, or 0 if it is not basic. The change of `enter` is 1, and that of another
-/// variable is its number in `numbers`, negated.
+/// The change of each variable if the nonbasic variable `enter` rises by 1 and the other nonbasic
+/// ones stay: 1 for `enter`, and the negated `numbers[v]` for any other variable v. `numbers[v]` is
+/// the coefficient of `enter` in the row in which v is basic, or 0 if v is not basic.
 pub fn changes<F: ExactField>(mut numbers: Vec<F>, enter: u32) -> Vec<F>
     requires { enter < length numbers.items }
     ensures { AreChanges F.value numbers.items enter result.items }

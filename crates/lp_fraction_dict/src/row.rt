@@ -14,7 +14,7 @@ use std::cmp::Ordering;
 pub struct Entry<F> {
     /// The column: 0 for the constant, v + 1 for variable v.
     pub column: u32,
-    /// The constant or the coefficient in this column, which is not 0.
+    /// The constant or coefficient in this column; it is not 0.
     pub number: F,
 }
 

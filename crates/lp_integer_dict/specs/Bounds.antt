@@ -18,10 +18,10 @@ pub record IsBounded (d : Dictionary) (bound : ℕ) : Type 0 where
 abbrev pub over_denominators : (ℕ → ℕ → ℤ) → (ℕ → ℕ) → ℕ → ℕ → Number
 over_denominators n d i c = ratio (n i c) (d i)
 
--- Stored rows with the integers n over the denominators d, where the denominator of row i and the
--- magnitudes of its integers are at most `most i`. Column 1 is that of variable 0, and row k has
--- the integer u, above 0, there. For each row that the exchange of variable 0 into row k makes, the
--- estimate of its greatest magnitude, computed from `most`, is at most the bound.
+-- Stored rows with the integers n over the denominators d; in row i these are at most `most i` in
+-- magnitude. Row k has the integer u, above 0, at column 1, that of variable 0. In the exchange of
+-- variable 0 into row k the estimate of the greatest magnitude is most k for row k, and most i · u
+-- + |n i 1| · most k for another row i. Each is at most the bound.
 pub record DeferredNumbersWithin (n : ℕ → ℕ → ℤ) (d most : ℕ → ℕ) (bound k u : ℕ) : Type 0 where
   pub pivot : n k 1 ≡ pos u
   pub above : 0 < u

@@ -8,12 +8,11 @@ use Rattle.lp_integer_dict.specs.declared.pairs.Measure.{Measure}
 use Rattle.lp_integer_rows.specs.Form.{lines_number, numbers_above, AreFactors}
 use Rattle.lp_integer_dict.specs.WithinBound.{line_denominator, row_most}
 
--- An exchange replaces a row by the difference of a multiple of it and a multiple of the leaving
--- variable's row. For the entering variable the row has the integer f, and the leaving variable's
--- row has p. Divided by a common factor `shared` they are `of_leaving`, by which the leaving
--- variable's row is multiplied, and `of_row`, by which the row is. The estimate of the difference,
--- from bounds of the magnitudes, `most` in the row and `other` in the leaving variable's row, is at
--- most the limit.
+-- An exchange replaces a row by the difference of `of_row` times this row and `of_leaving` times
+-- the leaving variable's row. For the entering variable the row has the integer f, and the leaving
+-- variable's row has p. Divided by a common factor `shared`, p is `of_row`, and f is `of_leaving`.
+-- The estimate of the difference, from bounds of the magnitudes, `most` in the row and `other` in
+-- the leaving variable's row, is at most the limit.
 pub record IsPairWithin (f p : ℤ) (most other limit : ℕ) : Type 0 where
   pub of_row : ℤ
   pub of_leaving : ℤ
@@ -25,8 +24,8 @@ pub record IsPairWithin (f p : ℤ) (most other limit : ℕ) : Type 0 where
 
 -- In an exchange a row has the integer f for the entering variable, and the row of the leaving
 -- variable has p. Divided by their greatest common divisor, p is `of_row`, by which the row is
--- multiplied, and f is `of_leaving`, by which the leaving variable's row is. The estimate of the
--- difference, from the rows' greatest magnitudes `most` and `other`, exceeds the limit.
+-- multiplied, and f is `of_leaving`, by which the other row is. |of_row| · most + |of_leaving| ·
+-- other exceeds the limit; `most` and `other` are the two rows' greatest magnitudes.
 pub record ReducedPairExceeds (f p : ℤ) (most other limit : ℕ) : Type 0 where
   pub of_row : ℤ
   pub of_leaving : ℤ
@@ -34,17 +33,17 @@ pub record ReducedPairExceeds (f p : ℤ) (most other limit : ℕ) : Type 0 wher
   pub no_bound : limit < nat_abs of_row * most + nat_abs of_leaving * other
 
 -- In an exchange a row has the integer f for the entering variable, and the row of the leaving
--- variable has p. The estimate of the difference of p times the row and f times the leaving
--- variable's row, from the rows' greatest magnitudes `most` and `other`, exceeds the limit. If p is
--- above 0, so does the estimate with f and p divided by their greatest common divisor.
+-- variable has p. `most` and `other` are the greatest magnitudes of the two rows. The estimate of p
+-- times the first less f times the second, |p| · most + |f| · other, exceeds the limit. If p is
+-- above 0, so it does with f and p divided by their greatest common divisor.
 pub record PairExceeds (f p : ℤ) (most other limit : ℕ) : Type 0 where
   pub plain : limit < nat_abs p * most + nat_abs f * other
   pub reduced : pos 0 <ℤ p → ReducedPairExceeds f p most other limit
 
--- The measure m of the row at `place` of the dictionary that the stored rows `lines` mean; if
--- `deferred` is Some k, the exchange of variable 0 into row k is still to be made in them. m has
--- the integer of the row at `column`, over the denominator `line_denominator`, and a bound of the
--- magnitudes in the row (`row_most`).
+-- The measure m of the row at `place` of a dictionary. The dictionary is the stored rows `lines`;
+-- if `deferred` is Some k, it results from them by the exchange of variable 0 into row k. m has the
+-- row's integer at `column`, over the denominator `line_denominator`, and a bound of the magnitudes
+-- in the row (`row_most`).
 pub record IsMeasured (lines : List Line) (deferred : Option ℕ) (place column : ℕ) (m : Measure) : Type 0 where
   pub number : ratio m.number (line_denominator deferred lines place) ≡ numbers_above deferred (lines_number lines) place column
   pub most : m.most ≡ row_most deferred lines place
@@ -58,7 +57,7 @@ rows_top (Some k) top = top * top + top * top
 
 -- The magnitudes in each row of the dictionary that the stored rows `lines` mean have a bound
 -- (`row_most`) that is at most `top`, and twice the square of `top` is at most `bound`. If
--- `deferred` is Some k, the exchange of variable 0 into row k is still to be made in them.
+-- `deferred` is Some k, the exchange of variable 0 into row k is still to be made in `lines`.
 pub record IsRoomy (lines : List Line) (deferred : Option ℕ) (bound : ℕ) : Type 0 where
   pub top : ℕ
   pub rows : (i : ℕ) → i < length lines → row_most deferred lines i ≤ top
@@ -67,7 +66,7 @@ pub record IsRoomy (lines : List Line) (deferred : Option ℕ) (bound : ℕ) : T
 -- The row at `place` of the dictionary that the stored rows `lines` mean is a list of integers over
 -- `denominator`; the magnitudes of the integers and the denominator are at most `most`, and the
 -- integer at `column` is `number`. If `deferred` is Some k, the exchange of variable 0 into row k
--- is still to be made in them.
+-- is still to be made in `lines`.
 pub record IsRowOver (lines : List Line) (deferred : Option ℕ) (place column : ℕ) (number : ℤ) (denominator most : ℕ) : Type 0 where
   pub positive : 0 < denominator
   pub low : denominator ≤ most
@@ -75,9 +74,9 @@ pub record IsRowOver (lines : List Line) (deferred : Option ℕ) (place column :
   pub each : (c : ℕ) → (n : ℤ) × (ratio n denominator ≡ numbers_above deferred (lines_number lines) place c) × (nat_abs n ≤ most)
 
 -- The measure m of the row at `place`, in lowest terms, of the dictionary that the stored rows
--- `lines` mean; if `deferred` is Some k, the exchange of variable 0 into row k is still to be made
--- in them. No divisor but 1 divides all integers of the row and its denominator. m has the integer
--- at `column`, and the greatest magnitude of the integers and the denominator.
+-- `lines` mean: only 1 divides all integers of the row and its denominator. m has the integer at
+-- `column`, and the greatest magnitude of the integers and the denominator. If `deferred` is Some
+-- k, the exchange of variable 0 into row k is still to be made in `lines`.
 pub record IsLowestRow (lines : List Line) (deferred : Option ℕ) (place column : ℕ) (m : Measure) : Type 0 where
   pub denominator : ℕ
   pub row : IsRowOver lines deferred place column m.number denominator m.most
@@ -85,10 +84,10 @@ pub record IsLowestRow (lines : List Line) (deferred : Option ℕ) (place column
   pub least : (b : ℕ) → denominator ≤ b → ((c : ℕ) (n : ℤ) → ratio n denominator ≡ numbers_above deferred (lines_number lines) place c → nat_abs n ≤ b) → m.most ≤ b
 
 -- In the dictionary that the stored rows `lines` mean, row i and the row of the leaving variable,
--- at `leaving`, can each be written as integers over a denominator (`IsRowOver`) such that the
--- estimate of what the exchange with the variable at `column` makes of row i (`IsPairWithin`) is at
--- most the bound. If `deferred` is Some k, the exchange of variable 0 into row k is still to be
--- made in the stored rows.
+-- at `leaving`, can each be written as integers over a denominator (`IsRowOver`) such that in the
+-- exchange with the variable at `column` the estimate for row i (`IsPairWithin`) is at most the
+-- bound. If `deferred` is Some k, this dictionary results from the stored rows by the exchange of
+-- variable 0 into row k; if None, it has the stored rows themselves.
 pub record IsPairFit (lines : List Line) (deferred : Option ℕ) (leaving column bound i : ℕ) : Type 0 where
   pub number : ℤ
   pub of_leaving : ℤ
@@ -100,18 +99,18 @@ pub record IsPairFit (lines : List Line) (deferred : Option ℕ) (leaving column
   pub row_leaving : IsRowOver lines deferred leaving column of_leaving denominator_leaving most_leaving
   pub within_bound : IsPairWithin number of_leaving most most_leaving bound
 
--- in the dictionary that the stored rows `lines` mean, for each of the first n rows, except that of
--- the leaving variable, at `leaving`, the estimate of what the exchange with the variable at
--- `column` makes of it is at most the bound (`IsPairFit`). If `deferred` is Some k, the exchange of
--- variable 0 into row k is still to be made in the stored rows
+-- For each of the first n rows of a dictionary, except the leaving variable's, at `leaving`: after
+-- the exchange with the variable at `column`, the estimate of the row's greatest magnitude is at
+-- most the bound (`IsPairFit`). The dictionary is the stored rows `lines`; if `deferred` is Some k,
+-- it results from them by the exchange of variable 0 into row k
 abbrev pub ArePairsFit : List Line → Option ℕ → ℕ → ℕ → ℕ → ℕ → Type 0
 ArePairsFit lines deferred leaving column bound n = (i : ℕ) → i < n → i ≢ leaving → IsPairFit lines deferred leaving column bound i
 
--- In the dictionary that the stored rows `lines` mean, the row of the leaving variable is at
--- `leaving`, and some other row is at `at`. With both in lowest terms (`IsLowestRow`), the estimate
--- of what the exchange with the variable at `column` makes of the row at `at` exceeds the bound
+-- In the dictionary that the stored rows `lines` mean, the leaving variable's row is at `leaving`,
+-- and some other row is at `at`, both in lowest terms (`IsLowestRow`). In the exchange with the
+-- variable at `column`, the estimate of the magnitudes in the row at `at` exceeds the bound
 -- (`PairExceeds`). If `deferred` is Some k, the exchange of variable 0 into row k is still to be
--- made in the stored rows.
+-- made in `lines`.
 pub record IsSomePairCrowded (lines : List Line) (deferred : Option ℕ) (leaving column bound : ℕ) : Type 0 where
   pub at : ℕ
   pub within : at < length lines

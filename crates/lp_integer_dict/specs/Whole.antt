@@ -25,8 +25,9 @@ whole_dictionary variables basic lines deferred =
       numbers = λ i c. numbers_above deferred (lines_number lines) (row_of (length basic) i) c;
     }
 
--- What is stored: the basic variable of each row; the rows with the objective (`lines`); the row
--- into which the exchange of variable 0 is deferred, if it is; and a bound of all integers.
+-- What is stored: the basic variable of each row; the rows, then the objective (`lines`); the row
+-- into which an exchange of variable 0 is deferred, if one is; and the bound on the denominators
+-- and the magnitudes of the integers in `lines`.
 pub record WholeTableau : Type 0 where
   -- the greatest number of a variable
   pub variables : ℕ
@@ -40,10 +41,10 @@ abbrev pub integer_dictionary : WholeTableau → Dictionary
 integer_dictionary t = whole_dictionary t.variables t.basic t.lines t.deferred
 
 -- The invariant of a tableau: it has a stored row for each basic variable and one for the
--- objective; the dictionary that these rows mean stays within the bound (`AreWhole`); the exchange
--- of variable 0 is deferred exactly if variable 0 is basic, in the row of variable 0; column
--- numbers have at most 32 bits; and the dictionary satisfies `IsProper`, the invariant of a
--- program's dictionaries.
+-- objective; the dictionary that these rows mean stays within the bound (`AreWhole`); an exchange
+-- of variable 0 is deferred exactly if variable 0 is basic, and into its row; column numbers have
+-- at most 32 bits; and the dictionary satisfies `IsProper`, the invariant of a program's
+-- dictionaries.
 pub record IsWhole (t : WholeTableau) : Type 0 where
   pub sized : t.variables + 2 < 2 ^ 32
   pub paired : length t.lines ≡ length t.basic + 1
@@ -51,23 +52,25 @@ pub record IsWhole (t : WholeTableau) : Type 0 where
   pub is_deferred : IsPlace t.basic 0 t.deferred
   pub proper : IsProper (integer_dictionary t)
 
--- the row in which the stored rows are exchanged when the variable of row k leaves: the row into
--- which the exchange of variable 0 is deferred (Some), or k if none is deferred (None)
+-- the pivot row of the exchange of the stored rows when the variable of row k leaves: row z if the
+-- exchange of variable 0 into row z is deferred (Some z), or row k if no exchange is (None)
 abbrev pub kept_place : Option ℕ → ℕ → ℕ
 kept_place None k = k
 kept_place (Some z) k = z
 
--- the stored rows might exceed the bound in the pivot p, where the variable of row k leaves: if
--- variable 0 enters, by the estimates of its exchange into row k (`DeferredExceeds`); if another
--- variable enters, in its exchange into the row `kept_place` (`ExchangeExceeds`), which is the row
--- into which an exchange of variable 0 is deferred, or k if none is
+-- estimates of the stored rows exceed the bound in the pivot p, in which the variable of row k
+-- leaves: if variable 0 enters, those of its exchange into row k (`DeferredExceeds`); if another
+-- variable enters, those of its exchange into the row into which an exchange of variable 0 is
+-- deferred, or, if none is, into row k (`ExchangeExceeds`)
 abbrev pub AreCrowded : WholeTableau → Pivot → ℕ → Type 0
 AreCrowded t p k =
     ((p.enter ≡ 0) × DeferredExceeds k t.lines t.bound)
     ⊎ ((p.enter ≢ 0) × ExchangeExceeds t.bound (p.enter + 1) (kept_place t.deferred k) k t.lines)
 
--- the pivot p, where the variable of row k leaves, might exceed the bound: by the estimate of what
--- it makes of some other row (`IsSomePairCrowded`), or in the stored rows (`AreCrowded`)
+-- in the pivot p, in which the variable of row k leaves, an estimate exceeds the bound: that of the
+-- greatest magnitude in the objective or in some row other than k, from the dictionary's rows in
+-- lowest terms (`IsSomePairCrowded`), or one from the rows as they are stored, where an exchange of
+-- variable 0 may be deferred (`AreCrowded`)
 abbrev pub IsPivotCrowded : WholeTableau → Pivot → ℕ → Type 0
 IsPivotCrowded t p k = IsSomePairCrowded t.lines t.deferred k (p.enter + 1) t.bound ⊎ AreCrowded t p k
 

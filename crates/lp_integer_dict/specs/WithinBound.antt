@@ -7,8 +7,9 @@ use Rattle.lp_integers.specs.Lines.{whole_at}
 use Rattle.lp_integer_rows.specs.Form.{wholes, lines_number, AreLines, AreBounded, AreLowest, IsPlan, IsSomeCrowded}
 use Rattle.lp_integer_rows.specs.Turning.{turned_at}
 
--- In the exchange of variable 0 into row k, the stored row p, an estimate of the greatest magnitude
--- in each resulting row, from the stored greatest magnitudes, is at most the bound.
+-- The exchange of variable 0 into row k, which is stored as p, stays within the bound: for each
+-- resulting row, an estimate of its greatest magnitude, computed from the stored greatest
+-- magnitudes, is at most the bound.
 pub record DeferredStaysWithin (k : ℕ) (p : Line) (lines : List Line) (bound : ℕ) : Type 0 where
   pub own : p.most ≤ bound
   pub others : (i : ℕ) (l : Line) → i ≢ k → slice_get lines i ≡ Some l → l.most * nat_abs (whole_at (wholes p) 1) + nat_abs (whole_at (wholes l) 1) * p.most ≤ bound
@@ -35,9 +36,10 @@ pub record IsDeferred (k : ℕ) (lines : List Line) (bound : ℕ) : Type 0 where
   pub above : pos 0 <ℤ whole_at (wholes pivot) 1
   pub within_bound : DeferredStaysWithin k pivot lines bound
 
--- the dictionary that stored rows mean stays within the bound: if no exchange is deferred (None),
--- the stored rows do; if that of variable 0 into row k is (Some k), the rows that it makes do, and
--- the integer of row k for variable 0 is above 0
+-- the dictionary that stored rows mean stays within the bound. None: it has these rows, and their
+-- stored greatest magnitudes are at most the bound. Some k: it results from these rows by the
+-- exchange of variable 0 into row k; the integer of row k for variable 0 is above 0, and the
+-- exchange stays within the bound (`IsDeferred`)
 abbrev pub RowsStayWithin : Option ℕ → List Line → ℕ → Type 0
 RowsStayWithin None lines bound = AreBounded bound lines
 RowsStayWithin (Some k) lines bound = IsDeferred k lines bound
@@ -48,9 +50,10 @@ abbrev pub IsNumberAbove : Option ℕ → List Line → ℕ → ℤ → Type 0
 IsNumberAbove None lines column above = Unit {0}
 IsNumberAbove (Some k) lines column above = (l : Line) → slice_get lines k ≡ Some l → above ≡ whole_at (wholes l) column
 
--- Stored rows with `width` columns, at least 2, and a bound of at most 127 bits within which the
--- dictionary that they mean stays; `deferred` is the row into which the exchange of variable 0 is
--- still to be made, or None.
+-- Stored rows with `width` columns, at least 2, and a bound of at most 127 bits. The dictionary
+-- that the rows mean stays within the bound. If `deferred` is Some k, this dictionary results from
+-- the stored rows by the exchange of variable 0 into row k; if None, it has the stored rows
+-- themselves.
 pub record AreWhole (lines : List Line) (deferred : Option ℕ) (width bound : ℕ) : Type 0 where
   pub are_lines : AreLines width lines
   pub wide : 1 < width
@@ -68,17 +71,17 @@ abbrev pub AreFactorsWithin : ℕ → List Factors → Type 0
 AreFactorsWithin top plans = (i : ℕ) (f : Factors) → slice_get plans i ≡ Some f → f.most ≤ top
 
 -- the exchange of variable 0 into the row `leaving`, made after an exchange by the factors `plans`,
--- keeps the estimate of the greatest magnitude in each other row within the bound. `lines` are the
+-- keeps the estimate of the greatest magnitude in each other row at most `bound`. `lines` are the
 -- rows before the first exchange; of these, l is the row `leaving`, with the factors g, and p is
 -- the pivot row
 abbrev pub DeferredStaysWithinAfter : ℕ → Line → Line → Factors → List Line → List Factors → ℕ → Type 0
 DeferredStaysWithinAfter leaving p l g lines plans bound =
     (i : ℕ) (x : Line) (f : Factors) → i ≢ leaving → slice_get lines i ≡ Some x → slice_get plans i ≡ Some f → f.most * zero_after l p g + zero_after x p f * g.most ≤ bound
 
--- After an exchange of the row at `place` and the variable at `column`, by the factors `plans`,
--- whose estimates for the other rows are at most the bound (`IsPlan`), the exchange of variable 0
--- into another row, at `leaving`, does not keep the estimate of the greatest magnitude in each row
--- other than `leaving` within the bound.
+-- Two exchanges: first of the row at `place` and the variable at `column`, by the factors `plans`,
+-- whose estimates for the other rows are at most the bound (`IsPlan`); then of variable 0 into
+-- another row, at `leaving`. In the second the estimate of the greatest magnitude in some row other
+-- than `leaving` exceeds the bound.
 pub record DeferredExceedsAfter (bound column place leaving : ℕ) (lines : List Line) : Type 0 where
   pub plans : List Factors
   pub pivot : Line
@@ -91,25 +94,25 @@ pub record DeferredExceedsAfter (bound column place leaving : ℕ) (lines : List
   pub planned : IsPlan bound column place lines pivot plans
   pub crowded : ¬ (DeferredStaysWithinAfter leaving pivot line factors lines plans bound)
 
--- an exchange of the row at `place` and the variable at `column` might exceed the bound, by
--- estimates of the greatest magnitudes, from its factors: in some resulting row, or, if `leaving`
--- is another row than that at `place`, in the exchange of variable 0 into the row at `leaving`
--- after it
+-- In one of two exchanges the estimate of the greatest magnitude in some row other than the pivot
+-- row exceeds the bound: in that of the row at `place` and the variable at `column`; or, if not
+-- there, in that of variable 0 into the row at `leaving`, made after it, where `leaving` is not
+-- `place`.
 abbrev pub FactorsExceed : ℕ → ℕ → ℕ → ℕ → List Line → Type 0
 FactorsExceed bound column place leaving lines =
     ((pivot : Line) × (slice_get lines place ≡ Some pivot) × IsSomeCrowded bound column place lines pivot) ⊎ DeferredExceedsAfter bound column place leaving lines
 
--- The factors `plans` of an exchange of the row at `place` and the variable at `column`, where the
--- estimate of the greatest magnitude in each resulting row, except that at `place`, is within the
--- bound. If `leaving` is another row, the exchange of variable 0 into it afterwards stays within
--- the bound too (`DeferredStaysWithinAfter`).
+-- `plans` has the factors of each row for an exchange of the row at `place` and the variable at
+-- `column`. By these the estimate of the greatest magnitude in each resulting row, except that at
+-- `place`, is within the bound. If `leaving` is not `place`, an exchange of variable 0 into row
+-- `leaving` afterwards stays within it too.
 pub record IsRoomyPlan (bound column place leaving : ℕ) (lines : List Line) (plans : List Factors) : Type 0 where
   pub planned : (p : Line) → slice_get lines place ≡ Some p → IsPlan bound column place lines p plans
   pub within_bound : (p l : Line) (g : Factors) → leaving ≢ place → slice_get lines place ≡ Some p → slice_get lines leaving ≡ Some l → slice_get plans leaving ≡ Some g → DeferredStaysWithinAfter leaving p l g lines plans bound
 
 -- `lines` are the stored rows after an exchange of the row at `place`. The stored greatest
--- magnitude (`most`) of each is at most the bound; and if `leaving` is another row, the exchange of
--- variable 0 into it, which is deferred from then on, stays within the bound
+-- magnitude (`most`) of each is at most the bound. If `leaving` is not `place`, the exchange of
+-- variable 0 into row `leaving`, deferred from then on, stays within the bound
 -- (`DeferredStaysWithin`).
 pub record ExchangedStayWithin (bound place leaving : ℕ) (lines : List Line) : Type 0 where
   pub bounded : AreBounded bound lines
@@ -133,19 +136,20 @@ pub record AreMade (column place : ℕ) (before made : List Line) : Type 0 where
   pub lowest : AreLowest made
 
 -- the rows that the exchange of the stored row at `place` and the variable at `column` makes exceed
--- the bound: the estimate of the greatest magnitude in some row exceeds 127 bits, or the rows that
--- it makes, in lowest terms, do not stay within the bound (`ExchangedStayWithin`). `leaving` is the
--- row of the leaving variable in the dictionary; it can be another row than that at `place` while
--- an exchange of variable 0 is deferred
+-- the bound: the estimate of the greatest magnitude in some other row exceeds 2^127 - 1, or the
+-- rows made, in lowest terms, do not stay within `bound` (`ExchangedStayWithin`). `leaving` is the
+-- row of the leaving variable in the dictionary; it can be another than that at `place` while an
+-- exchange of variable 0 is deferred
 abbrev pub MadeRowsExceed : ℕ → ℕ → ℕ → ℕ → List Line → Type 0
 MadeRowsExceed bound column place leaving lines =
     ((pivot : Line) × (slice_get lines place ≡ Some pivot) × IsSomeCrowded (2 ^ 127 - 1) column place lines pivot)
     ⊎ ((made : List Line) × AreMade column place lines made × ¬ (ExchangedStayWithin bound place leaving made))
 
--- An exchange of the stored row at `place` and the variable at `column` might exceed the bound: by
--- the estimate from its factors of the greatest magnitude in a row, and also by the rows that it
--- makes. `leaving` is the row of the leaving variable in the dictionary; it can be another row than
--- that at `place` while an exchange of variable 0 is deferred.
+-- An exchange of the stored row at `place` and the variable at `column` might exceed the bound: an
+-- estimate from its factors exceeds the bound (`FactorsExceed`), and so do the rows that the
+-- exchange makes (`MadeRowsExceed`). `leaving` is the row of the leaving variable in the
+-- dictionary; it can be another row than that at `place` while an exchange of variable 0 is
+-- deferred.
 pub record ExchangeExceeds (bound column place leaving : ℕ) (lines : List Line) : Type 0 where
   pub factors : FactorsExceed bound column place leaving lines
   pub made : MadeRowsExceed bound column place leaving lines

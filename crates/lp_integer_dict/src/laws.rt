@@ -8,21 +8,22 @@ ghost use Rattle.lp_integer_dict.specs.Bounds.{IsBounded, DeferredNumbersWithin,
 ghost use Rattle.lp_integer_dict.specs.Pairs.{IsPairWithin};
 ghost use Rattle.lp_integer_rows.specs.Turning.{turned_at, swapped, with_row_negated, IsDeferredExchange};
 
-/// What an exchange does to the stored rows while variable 0 is deferred, that is, basic in a row
-/// `k` of the dictionary, but not in the stored rows, where its exchange is not made yet: Chvatal,
-/// Linear Programming, chapter 3.
+/// Exchanges while variable 0 is deferred: it is basic in row `k` of the dictionary, but its
+/// exchange into row `k` is not in the stored rows yet (Chvatal, Linear Programming, chapter 3).
 ///
-/// `n` has the number of each row at each column. An exchange in row `k` at column `q` divides row
-/// `k` by its number at `q` and makes the numbers at `q` of all other rows 0; `turned_at` is the
-/// number of row `i` at column `c` after it. Except in `negated`, the number at which an exchange
-/// is made is required not to be 0. Of two exchanges in one row, at columns `z` and `q`, only the
-/// second counts (`own`). Let a variable other than 0 leave, by row `l`: then the stored rows are
-/// exchanged in row `k`, rows `k` and `l` are swapped, and variable 0 remains deferred in row `k`
-/// (`other`, `above`). In `other`, `z` is the column of variable 0, and `q` that of the entering
-/// variable. A row and its negation give the same exchange (`negated`). If variable 0 leaves, it is
-/// no longer deferred, and its column, 1, has only zeros (`leaves`). In `above` and `leaves`, `d`
-/// is the dictionary, `kept` are the stored rows, and `q` is the entering variable, which has
-/// column `q + 1`.
+/// `n i c` is the number of row `i` at column `c`; `turned_at n q k i c` is this number after the
+/// exchange in row `k` at column `q`, which divides row `k` by its number at `q`, and makes the
+/// other rows 0 at `q`. Except in `negated`, the number at which an exchange is made is not 0.
+/// `own`: after an exchange in row `k` at `z`, one in the same row at `q` gives what it gives
+/// alone. `other`: exchanges in row `k` at `z`, then in another row `l` at `q`, give what three
+/// steps give: the exchange in row `k` at `q`, the swap of rows `k` and `l`, the exchange in row
+/// `k` at `z`. `negated`: a row and its negation give the same exchange.
+///
+/// In `above` and `leaves`, `d` is the dictionary, `kept` are the stored rows, and variable `q`, at
+/// column `q + 1`, enters. `above`: if a variable other than 0 leaves, by row `l`, the new stored
+/// rows are `kept` after the exchange in row `k` at column `q + 1` and the swap of rows `k` and
+/// `l`; variable 0 remains deferred in row `k`. `leaves`: if variable 0 leaves, the new dictionary
+/// is `kept` after the exchange in row `k` at column `q + 1`, with zeros at column 1.
 pub fn turning_laws()
     ensures own { (n : ℕ → ℕ → Number) (z q k i c : ℕ) → n k z ≢ whole (pos 0) → n k q ≢ whole (pos 0) →
         turned_at (turned_at n z k) q k i c ≡ turned_at n q k i c }
@@ -38,17 +39,17 @@ pub fn turning_laws()
         (exchanged d q k).numbers i c ≡ (if c == 1 then whole (pos 0) else turned_at kept (q + 1) k i c) }
 {}
 
-/// In an exchange a row of integers over one denominator becomes such a row again (`divided` for
-/// the row of the leaving variable, `lessened` for any other), and two ratios of a ratio test
-/// compare as the cross products of their integers (`compare_most`, `compare_below`): Edmonds,
-/// Systems of distinct representatives and linear algebra; Bareiss, Sylvester's identity and
-/// multistep integer-preserving Gaussian elimination.
+/// In an exchange a row of integers over one denominator becomes such a row again, and two ratios
+/// of a ratio test compare as cross products of integers: Edmonds, Systems of distinct
+/// representatives and linear algebra; Bareiss, Sylvester's identity and multistep
+/// integer-preserving Gaussian elimination.
 ///
-/// In `lessened` a row has the integer `n` at some column and `f` for the entering variable, over
-/// the denominator `d`. The row of the leaving variable has `x` at that column and `p` for the
-/// entering variable, over `e`. `a` and `b` are `p` and `f` divided by a common factor `g`. In
-/// `compare_most` and `compare_below` the ratios are those of `r` to `a`, in a row over `d`, and of
-/// `s` to `b`, in a row over `e`.
+/// `divided`: the row of the leaving variable has `x` at a column and `p` for the entering
+/// variable, over `e`; (x/e) / (p/e) = x/p. `lessened`: another row has `n` and `f` at these, over
+/// `d`. If a = p/g and b = f/g for a common factor `g`, then n/d - f/d * ((x/e) / (p/e)) =
+/// (a * n - b * x) / (a * d). `compare_most`: for rows over `d`, `e` with the constants `r`, `s`
+/// and `a`, `b` for the entering variable, (r/d) / (a/d) <= (s/e) / (b/e) exactly if
+/// r * b <= s * a. `compare_below`: this with <. Divisors are above 0.
 pub fn line_laws()
     ensures divided { (x : ℤ) (p e : ℕ) → 0 < e → 0 < p → ratio x e /ℚ ratio (pos p) e ≡ ratio x p }
     ensures lessened { (n x f b : ℤ) (d e p a g : ℕ) → 0 < d → 0 < e → 0 < a → 0 < g → p ≡ a * g → f ≡ b *ℤ pos g →
@@ -59,23 +60,22 @@ pub fn line_laws()
         (ratio r d /ℚ ratio (pos a) d <ℚ ratio s e /ℚ ratio (pos b) e) ↔ ((r *ℤ pos b) <ℤ (s *ℤ pos a)) }
 {}
 
-/// When the steps on rows of integers over common denominators fit under a limit, that is, compute
-/// no numerator or denominator beyond it. All steps of the ratio test of the entering variable `q`,
-/// in the pivot with the number `pivot`, fit if no integer and no denominator of the dictionary
-/// exceeds the limit (`ratios`).
+/// When steps on rows of integers over common denominators fit under a limit, that is, compute no
+/// numerator or denominator beyond it. `ratios`: all steps of the ratio test of the entering
+/// variable `q`, in the pivot with the number `pivot`, fit if no integer and no denominator of the
+/// dictionary's rows exceeds the limit in magnitude.
 ///
-/// In `pairs` a row has the integer `ni` at some column and `f` for the entering variable, over the
-/// denominator `di`, and the row of the leaving variable has `nk` and `p` there, over `dk`. `mi` is
-/// at least `di` and the magnitude of `ni`, and `mk` is at least the magnitude of `nk`. The
-/// estimate of `IsPairWithin`, computed from `f`, `p`, `mi` and `mk`, bounds the integer that the
-/// exchange makes of `ni`. If it is at most the limit, both steps of the exchange at the column of
-/// `ni` fit: a product and a difference.
+/// `pairs`: at some column and for the entering variable, a row has the integers `ni` and `f`, over
+/// the denominator `di`, and the row of the leaving variable has `nk` and `p`, over `dk`. The
+/// exchange replaces ni/di by ni/di - f/di * ((nk/dk) / (p/dk)). Its two steps, the product and the
+/// difference, fit if |p/g| * mi + |f/g| * mk is at most the limit for a common factor g of `p` and
+/// `f` (`IsPairWithin`). Here `mi` is at least `di` and |ni|, and `mk` is at least |nk|.
 ///
-/// In `above` the exchange of variable 0 into row `k` is still to be made in the stored rows, with
-/// the integers `n` over the denominators `d`, and `above` is the dictionary after it. Row `k` has
-/// the integer `u` for variable 0. No integer and no denominator of that dictionary exceeds the
-/// bound if no estimate does. Each row has an estimate of the magnitudes that the exchange makes in
-/// it, computed from the bounds `most` of the magnitudes in the stored rows.
+/// `above`: the exchange of variable 0, at column 1, into row `k` makes the dictionary `above` of
+/// stored rows: integers `n` over the denominators `d`, both in row i at most `most i` in
+/// magnitude. Row `k` has the integer `u`, above 0, at column 1. No integer and no denominator of
+/// `above` exceeds `bound` if most k, and most i * u + |n i 1| * most k for each other row i, are
+/// at most `bound`.
 pub fn bound_laws()
     ensures ratios { (limit bound : ℕ) (d : Dictionary) (pivot q : ℕ) → bound ≤ limit → IsBounded d bound →
         AllFit (ratio_steps limit pivot d q) }
@@ -87,11 +87,10 @@ pub fn bound_laws()
         DeferredNumbersWithin n d most bound k u → IsDeferredExchange above (over_denominators n d) k → IsBounded above bound }
 {}
 
-/// The numbers of a dictionary, computed from the stored rows, if the exchange of variable 0 into
-/// row `k` is deferred. Column `z` is that of variable 0, and row `k` has the integer `u` there,
-/// which is above 0. Row `k` of the dictionary has the stored integers over `u` (`own`). Any other
-/// row has, over `u` times its denominator, the difference of `u` times its integers and its
-/// integer at `z` times the integers of row `k` (`other`).
+/// The numbers of a dictionary while the exchange of variable 0 into row `k` is deferred. Stored
+/// row i has the integer `n i c` at column `c`, over the denominator `d i`, above 0. Column `z` is
+/// that of variable 0, and u = n k z is above 0. At column `c` the dictionary has n k c / u in row
+/// `k` (`own`), and (u * n i c - n i z * n k c) / (u * d i) in any other row i (`other`).
 pub fn reading_laws()
     ensures own { (n : ℕ → ℕ → ℤ) (d : ℕ → ℕ) (z k u c : ℕ) → n k z ≡ pos u → 0 < u → ((i : ℕ) → 0 < d i) →
         turned_at (over_denominators n d) z k k c ≡ ratio (n k c) u }

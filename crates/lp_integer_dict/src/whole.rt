@@ -21,14 +21,14 @@ use lp_integer_rows::{Line, forget_zero, raise_at, reduce_lines, swap_lines};
 use std::alloc::{AllocError, Global};
 use std::marker::Model;
 
-/// A dictionary of the simplex method: an equation for each basic variable, which is its row, and
-/// one for the objective. Each is stored as integers over one denominator, none above a bound in
-/// magnitude (Chvatal, Linear Programming, chapters 2 and 3; Edmonds, Systems of distinct
-/// representatives and linear algebra).
+/// A dictionary of the simplex method: a row for each basic variable, and the objective. Each row,
+/// and the objective, is stored as integers over one denominator, all at most a bound in magnitude
+/// (Chvatal, Linear Programming, chapters 2 and 3; Edmonds, Systems of distinct representatives and
+/// linear algebra).
 ///
-/// Variable 0 is the artificial variable of phase 1. While it is basic, its exchange is deferred:
-/// the stored rows are those of a dictionary in which it is not basic, and each number that is read
-/// is computed from them as if the exchange were made.
+/// Variable 0 is the artificial variable of phase 1. While variable 0 is basic, the exchange by
+/// which it entered is deferred: the stored rows are those without this exchange, and a number that
+/// is read is computed as if the exchange were made.
 #[derive(Drop)]
 pub struct Whole {
     variables: u32,
@@ -61,13 +61,15 @@ fn place_among(basic: &[u32], variable: u32) -> Option<usize>
 }
 
 impl Whole {
-    /// The dictionary with these rows, one for each variable of `basic`, in the same order, and
-    /// after them the objective. `variables` is the greatest number of a variable. `None` exactly
-    /// if the greatest magnitude that is stored with some row exceeds `bound`.
+    /// The dictionary with the rows `lines`: one for each variable of `basic`, in the same order,
+    /// then the objective. `variables` is the greatest number of a variable, and each row has
+    /// variables + 2 columns. `None` exactly if the stored greatest magnitude of some row or the
+    /// objective exceeds `bound`.
     ///
-    /// The caller must ensure that variable 0 is not basic, and that the dictionary is proper: the
-    /// basic variables are distinct, each occurs in its own row alone, with coefficient 1, and if
-    /// some constant is below 0, variable 0 has coefficient -1 in each row.
+    /// The caller must ensure that column numbers have at most 32 bits, and `bound` at most 127;
+    /// that the basic variables are distinct, from 1 to `variables`, each with coefficient 1 in its
+    /// own row, and 0 in the others and the objective; and that variable 0 has coefficient -1 in
+    /// each row but the objective if some such row's constant is below 0.
     pub fn of_lines(variables: u32, basic: Vec<u32>, lines: Vec<Line>, bound: u128) -> Option<Whole>
         requires sized { variables + 2 < 2 ^ 32 }
         requires small { bound < 2 ^ 127 }
@@ -113,11 +115,10 @@ impl Whole {
         place_among(self.basic.as_slice(), v)
     }
 
-    /// The number at a column of a row. `row` counts the rows from 0, and the objective follows the
-    /// last one. Column 0 is the constant, and variable v has column v + 1. The sum of a row's
-    /// coefficients times their variables is its constant; the objective is the sum for its own
-    /// row, less its constant. Numerator and denominator are at most the dictionary's bound in
-    /// magnitude.
+    /// The number at `column` of `row`, both from 0. The objective follows the last row. Column 0
+    /// has the constant, and column v + 1 the coefficient of variable v. In a row the coefficients
+    /// times their variables sum to the constant; in the objective's, to the objective plus the
+    /// constant. Numerator and denominator are at most the dictionary's bound in magnitude.
     #[inline(always)]
     pub fn number(&self, row: usize, column: usize) -> Fraction
         requires row { row ≤ length self.now.basic }
@@ -129,9 +130,9 @@ impl Whole {
         read(self.lines.as_slice(), self.deferred, row, column)
     }
 
-    /// The opening pivot, in which variable 0 enters, by Bland's choice: of the basic variables
-    /// with the least constant, which is below 0, the one with the least number leaves. `None`
-    /// exactly if no constant is below 0, so that no opening pivot is required.
+    /// The opening pivot: variable 0 enters, and of the basic variables whose rows have the least
+    /// constant the one with the least number leaves. `None` exactly if no row's constant is below
+    /// 0, so that no opening pivot is required.
     pub fn opening(&self) -> Option<Pivot>
         ensures { MatchOption result (¬ (OpeningIsRequired (integer_dictionary self.now)))
             (λ p. ((k : ℕ) × IsOpening (integer_dictionary self.now) p k) ×
@@ -146,11 +147,11 @@ impl Whole {
         }
     }
 
-    /// The variable with the least number of those that improve; `None` exactly if none improves. A
-    /// variable improves if it is neither basic nor variable 0 and has a coefficient above 0 in the
-    /// priced row, which is that of variable 0 while variable 0 is basic, else the objective. A row
-    /// equates the sum of its terms with a constant, so variable 0 falls as such a variable rises.
-    /// The opening pivot must not be required, that is, no row's constant is below 0.
+    /// Of the variables that improve, the one with the least number; `None` exactly if none
+    /// improves. A variable improves if it is neither basic nor variable 0, and its coefficient in
+    /// the priced row is above 0. The priced row is the row in which variable 0 is basic, so that
+    /// variable 0 falls as an improving variable rises; without such a row it is the objective. The
+    /// caller must ensure that no row's constant is below 0: no opening pivot is required.
     pub fn entering(&self) -> Option<u32>
         requires { ¬ (OpeningIsRequired (integer_dictionary self.now)) }
         ensures { MatchOption result ((v : ℕ) → ¬ (Improves (integer_dictionary self.now) v))
@@ -163,11 +164,11 @@ impl Whole {
     }
 
     /// Of the variables that improve, the one with the greatest coefficient in the priced row, and
-    /// of several such variables the one with the least number; `None` exactly if none improves. A
-    /// variable improves if it is neither basic nor variable 0 and has a coefficient above 0 in the
-    /// priced row, which is that of variable 0 while variable 0 is basic, else the objective. A row
-    /// equates the sum of its terms with a constant, so variable 0 falls as such a variable rises.
-    /// The opening pivot must not be required, that is, no row's constant is below 0.
+    /// of those with this coefficient the one with the least number; `None` exactly if none
+    /// improves. A variable improves if it is neither basic nor variable 0, and its coefficient in
+    /// the priced row is above 0. The priced row is the row in which variable 0 is basic, so that
+    /// variable 0 falls as an improving variable rises; without such a row it is the objective. The
+    /// caller must ensure that no row's constant is below 0: no opening pivot is required.
     pub fn greatest(&self) -> Option<u32>
         requires { ¬ (OpeningIsRequired (integer_dictionary self.now)) }
         ensures { MatchOption result ((v : ℕ) → ¬ (Improves (integer_dictionary self.now) v)) (HasGreatest (integer_dictionary self.now)) }
@@ -178,14 +179,14 @@ impl Whole {
         }
     }
 
-    /// The variable that leaves when the variable `enter` enters: of those that tie in the ratio
-    /// test the one with the least number. `None` exactly if no row limits the rise of `enter`. No
-    /// step of the test computes a numerator or a denominator beyond the dictionary's bound.
+    /// The variable that leaves when the variable `enter` enters: of the basic variables whose rows
+    /// have the least ratio, the one with the least number. `None` exactly if no row limits the
+    /// rise of `enter`. No step computes a numerator or a denominator beyond the dictionary's
+    /// bound.
     ///
-    /// The caller must ensure that `enter` improves, that is, is neither basic nor variable 0 and
-    /// has a coefficient above 0 in the priced row (that of variable 0 while this is basic, else
-    /// the objective). A row equates the sum of its terms with a constant, so variable 0 falls as
-    /// `enter` rises.
+    /// The caller must ensure that `enter` improves: it is neither basic nor variable 0, and its
+    /// coefficient in the priced row is above 0. The priced row is the row in which variable 0 is
+    /// basic, so that variable 0 falls as `enter` rises; without such a row, the objective.
     pub fn leaving(&self, enter: u32) -> Option<u32>
         requires { Improves (integer_dictionary self.now) enter }
         ensures choice { IsLeaving (integer_dictionary self.now) enter result }
@@ -440,21 +441,17 @@ impl Whole {
         Ok(same)
     }
 
-    /// The dictionary after the pivot `p`, as the inner `Ok`: `p.enter` becomes basic in the row of
-    /// `p.leave`. If variable 0 leaves, its coefficients become 0. No step of the exchange computes
-    /// a numerator or a denominator beyond the dictionary's bound.
+    /// Makes the pivot `p`: `p.enter` becomes basic in the row of `p.leave`, and if variable 0
+    /// leaves, its coefficients become 0. The inner `Ok` is the dictionary after the pivot; no step
+    /// of the exchange computes a numerator or a denominator beyond the dictionary's bound. The
+    /// inner `Err` is the dictionary before the pivot; it is returned only if an estimate of the
+    /// magnitudes after the pivot exceeds the bound. The error is out of memory; the dictionary is
+    /// then lost.
     ///
-    /// The caller must ensure that `p` is legal: if some constant is below 0, variable 0 enters and
-    /// a basic variable with the least constant leaves; else a variable that improves (one whose
-    /// rise raises the objective or, while variable 0 is basic, lowers that) enters, and one that
-    /// ties in the ratio test leaves, variable 0 if it ties.
-    ///
-    /// The inner `Err` is the dictionary, unchanged. It is returned only if, for some row, an
-    /// estimate of the magnitudes after the pivot exceeds the bound. One estimate is of each row
-    /// other than that of `p.leave`, computed from these two rows in lowest terms. The others are
-    /// of the stored rows, in which the exchange of variable 0 may be deferred.
-    ///
-    /// The error is out of memory; the dictionary is then lost.
+    /// The pivot `p` must be legal. If the constant of some row is below 0, variable 0 enters, and
+    /// a variable whose row has the least constant leaves. Else, a variable enters whose rise
+    /// lowers variable 0 if variable 0 is basic, or else raises the objective; and a variable
+    /// leaves whose row has the least ratio, variable 0 if its row has it.
     pub fn pivot(self, alloc: Global, p: Pivot) -> Result<Result<Whole, Whole>, AllocError>
         requires { (k : ℕ) × IsLegal (integer_dictionary self) p k }
         ensures exchanged { IfOk result (λ r. IfOk r (λ after. (k : ℕ) → slice_get self.basic k ≡ Some p.leave →
@@ -475,10 +472,11 @@ impl Whole {
         Ok(Err(same))
     }
 
-    /// A law, with an empty body: what is true of each dictionary of this type. Every basic
-    /// variable occurs in its own row alone, with coefficient 1. The number of a column has at most
-    /// 32 bits, and the bound has at most 127 bits. The number at a row after the last one is that
-    /// of the objective, and the number at a column after the last variable's is 0.
+    /// A law on each dictionary of this type. A basic variable has coefficient 1 in its own row,
+    /// and 0 in the other rows and the objective; if a row's constant is below 0, variable 0 has -1
+    /// in each row; if variable 0 is basic, its row's constant is above 0. Column numbers have at
+    /// most 32 bits, the bound 127. A row past the last has the objective's numbers, a column past
+    /// the last 0.
     pub fn keeps(&self)
         ensures proper { IsProper (integer_dictionary self.now) }
         ensures sized { self.now.variables + 2 < 2 ^ 32 }

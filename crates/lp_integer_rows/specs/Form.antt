@@ -38,20 +38,20 @@ pub record AreFactors (f p a b : ℤ) : Type 0 where
   pub first : a *ℤ pos shared ≡ p
   pub second : b *ℤ pos shared ≡ f
 
--- The factors f of a row and the pivot row in an exchange at a column: the pivot row's integer at
--- the column, by which the row is multiplied, and the row's, by which the pivot row is, both
--- divided by their greatest common divisor (`AreFactors`). `most` is the estimate of the resulting
--- row's integers: the sum, over these two rows, of the factor's magnitude times the row's stored
--- greatest magnitude. It is at most the bound.
+-- The factors of an exchange at a column: `f.line`, by which the row is multiplied, is the pivot
+-- row's integer at the column; `f.pivot`, by which the pivot row is multiplied, is the row's
+-- integer there; both are divided by their greatest common divisor. The estimate `f.most` of the
+-- resulting row's integers is the sum over both rows of the factor's magnitude times the row's
+-- stored bound `most`. It is at most `bound`.
 pub record IsPlanned (bound column : ℕ) (line pivot : Line) (f : Factors) : Type 0 where
   pub factors : AreFactors (whole_at (wholes line) column) (whole_at (wholes pivot) column) f.line f.pivot
   pub most : f.most ≡ nat_abs f.line * line.most + nat_abs f.pivot * pivot.most
   pub within : f.most ≤ bound
 
--- In an exchange at a column the estimate of a row's integers exceeds the bound. The estimate is
--- the sum, over the row and the pivot row, of the factor's magnitude times the row's stored
--- greatest magnitude. The factors are the pivot row's integer at the column for the row, and the
--- row's for the pivot row, both divided by their greatest common divisor (`AreFactors`).
+-- In an exchange at a column the estimate of the magnitudes that result in a row exceeds the bound.
+-- The estimate is the magnitude of `of_line` times the stored greatest magnitude of the row, plus
+-- that of `of_pivot` times that of the pivot row. `of_line` is the pivot row's integer at the
+-- column, and `of_pivot` the row's, both divided by their greatest common divisor (`AreFactors`).
 pub record IsCrowded (bound column : ℕ) (line pivot : Line) : Type 0 where
   pub of_line : ℤ
   pub of_pivot : ℤ
@@ -91,8 +91,9 @@ pub record IsLessenedLine (column : ℕ) (before pivot after : Line) (f : Factor
   pub numbers : (c : ℕ) → line_number after c ≡ line_number before c -ℚ line_number before column *ℚ (line_number pivot c /ℚ line_number pivot column)
   pub within : IsWithinFactors before pivot after f
 
--- The row `after` is `before` divided by its number at `column`. The integers of `after` have no
--- greater magnitude.
+-- The row `after` is `before` divided by the number of `before` at `column`. At each column the
+-- integer of `after` is at most that of `before` in magnitude, and the stored bound `most` of the
+-- magnitudes is not greater in `after`.
 pub record IsDividedLine (column : ℕ) (before after : Line) : Type 0 where
   pub is_line : IsLine after
   pub sized : length (wholes after) ≡ length (wholes before)
@@ -140,8 +141,8 @@ pub record AreForgotten (before after : List Line) : Type 0 where
   pub sized : length after ≡ length before
   pub each : (i : ℕ) (x y : Line) → slice_get before i ≡ Some x → slice_get after i ≡ Some y → IsForgottenLine x y
 
--- Row k is as before or negated, whichever has a positive coefficient of variable 0; the other rows
--- are unchanged.
+-- Row k, whose coefficient of variable 0 is not 0, is as before, or negated if this coefficient was
+-- negative; the other rows are unchanged.
 pub record IsRaisedAt (k : ℕ) (before after : List Line) : Type 0 where
   pub sized : length after ≡ length before
   pub here : (x y : Line) → slice_get before k ≡ Some x → slice_get after k ≡ Some y → IsRaisedLine x y
@@ -167,8 +168,8 @@ pub record ArePlanned (bound column place : ℕ) (lines : List Line) (pivot : Li
   pub each : (i : ℕ) (l : Line) (f : Factors) → i ≢ place → slice_get lines i ≡ Some l → slice_get plans i ≡ Some f → IsPlanned bound column l pivot f
   pub own : (f : Factors) → slice_get plans place ≡ Some f → f ≡ own_factors pivot
 
--- In an exchange at a column the estimate of the integers of some row, other than the pivot row at
--- `place`, exceeds the bound.
+-- In an exchange at a column the estimate of the integers that result in some row, other than the
+-- pivot row at `place`, exceeds the bound.
 pub record IsSomeCrowded (bound column place : ℕ) (lines : List Line) (pivot : Line) : Type 0 where
   pub at : ℕ
   pub line : Line
@@ -186,9 +187,9 @@ pub record AreLinesExchanged (column place : ℕ) (pivot : Line) (plans : List F
   pub kept : slice_get after place ≡ slice_get before place
 
 -- The list `plans` has the factors of all rows for an exchange of the pivot row, which is at
--- `place`, and the variable at `column`; the estimates of the integers of the other rows are at
--- most the bound, and the bound has at most 127 bits. The integer of the pivot row at `column` is
--- above 0.
+-- `place`, and the variable at `column`. The integer of the pivot row at `column` is above 0. The
+-- bound is below 2^127. For each row except the pivot row the estimate of the integers that the
+-- exchange gives the row is at most the bound.
 pub record IsPlan (bound column place : ℕ) (lines : List Line) (pivot : Line) (plans : List Factors) : Type 0 where
   pub small : bound < 2 ^ 127
   pub above : pos 0 <ℤ whole_at (wholes pivot) column

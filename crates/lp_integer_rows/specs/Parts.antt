@@ -30,7 +30,7 @@ pub record IsMultiple (parts : List Part) (n m : ℕ) : Type 0 where
   pub divides : DivideAll parts n m
   pub least : (k : ℕ) → 0 < k → DivideAll parts n k → m ∣ k
 
--- no common multiple of the numbers m and d has at most 127 bits
+-- no common multiple of the numbers m and d, except 0, has at most 127 bits
 abbrev pub HaveNoMultiple : ℕ → ℕ → Type 0
 HaveNoMultiple m d = (k : ℕ) → 0 < k → m ∣ k → d ∣ k → 2 ^ 127 ≤ k
 

@@ -13,14 +13,13 @@ use std::mem;
 
 /// The factors of each row of `lines` for the exchange that makes the variable at `column` basic in
 /// the pivot row. The pivot row is at `place` in `lines` and passed as `pivot` too; its integer at
-/// `column` must be above 0. Each row is multiplied by the first of its factors, and the pivot row
-/// times the second is subtracted, which makes the row 0 at `column`. The factors for the pivot row
-/// itself leave it unchanged.
+/// `column` must be above 0. Each row is multiplied by its factor `line`, and the pivot row times
+/// its factor `pivot` is subtracted, which makes the row 0 at `column`. The factors for the pivot
+/// row itself leave it unchanged.
 ///
-/// The factors and the greatest magnitudes of both rows give an upper bound on the row's integers
-/// after the exchange; `None` means that for some row other than the pivot row this upper bound
-/// exceeds `bound`. Before the call no stored magnitude may exceed `bound`. The only error is out
-/// of memory.
+/// No integer of a row exceeds |`line`| times the row's `most` plus |`pivot`| times the pivot row's
+/// `most` in magnitude after the exchange. `None` means that this exceeds `bound` for some row but
+/// the pivot row. Before the call no row's `most` may exceed `bound`. The error is out of memory.
 pub fn plan_lines(
     alloc: Global,
     lines: &[Line],
@@ -124,10 +123,10 @@ pub(crate) fn no_line(alloc: Global) -> Line {
     }
 }
 
-/// Exchanges the basic variable of the row at `place` and the variable at `column`, in all rows.
-/// `plans` must have the factors of each row for this exchange, in the order of the rows, as
-/// `plan_lines` gives them. A row that changes may also be divided, integers and denominator, by a
-/// common divisor, which leaves its fractions the same. The only error is out of memory.
+/// Exchanges, in all rows, the basic variable of the row at `place` and the variable at `column`.
+/// `plans` must have, in the order of the rows, the factors that `plan_lines` gives for this
+/// exchange. Each changed row may also be divided, integers and denominator, by a common divisor,
+/// which leaves its fractions the same. The only error is out of memory.
 pub fn exchange_lines(
     alloc: Global,
     lines: &mut Vec<Line>,

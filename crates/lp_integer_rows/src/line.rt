@@ -9,10 +9,9 @@ use crate::marks::Marks;
 use lp_integers::{Numbers, gcd, greatest, sum_within};
 use std::alloc::{AllocError, Global};
 
-/// A row of fractions, one for each column: their numerators, which are integers, over one
-/// denominator. Stored with them are a bound `most`, which neither the denominator nor the
-/// magnitude of any integer exceeds; marks on the columns whose integer may be other than 0; and
-/// the first two integers once more.
+/// A row of fractions, one for each column: integers over one denominator. Neither the denominator
+/// nor the magnitude of any integer exceeds `most`. The columns whose integer is not 0 have
+/// `marks`, and perhaps others too. `leading` has the first two integers once more.
 #[derive(Drop)]
 pub struct Line {
     pub numbers: Numbers,
@@ -23,9 +22,9 @@ pub struct Line {
 }
 
 impl Line {
-    /// The row of these integers, one for each column, over this denominator. The denominator and
-    /// the magnitudes of the integers are required to have at most 127 bits. The `most` of the row
-    /// is the greatest of them. The only error is out of memory.
+    /// The row of these integers, one for each column, over this denominator, which must be above
+    /// 0. The denominator and the magnitudes of the integers must have at most 127 bits; `most` is
+    /// the greatest of these. The only error is out of memory.
     pub fn new(alloc: Global, numbers: Vec<i128>, denominator: u128) -> Result<Line, AllocError>
         requires positive { 0 < denominator }
         requires small { denominator < 2 ^ 127 }
@@ -90,8 +89,8 @@ pub fn copied_line(alloc: Global, line: &Line) -> Result<Line, AllocError>
     })
 }
 
-/// The factors of a row in an exchange: the row is multiplied by `line`, and from it the pivot row
-/// multiplied by `pivot` is subtracted. `most` is a number that no integer of the resulting row
+/// The factors of a row in an exchange, which replaces the row's integers by `line` times these
+/// less `pivot` times the pivot row's. `most` is a number that no integer of the resulting row
 /// exceeds in magnitude.
 #[derive(Clone, Copy)]
 pub struct Factors {
@@ -122,9 +121,9 @@ pub fn number_at(line: &Line, column: usize) -> i128
     line.numbers.at(column)
 }
 
-/// The integer that a row has at a column, counted from 0. The first two integers are stored once
-/// more, and at a column without a mark the integer is 0, so the call reads the list of integers
-/// for few columns only.
+/// The integer of a row at a column, counted from 0. The integers of columns 0 and 1 are stored
+/// also outside the row's list of integers; at a column without a mark the integer is 0. The list
+/// is read only at a later column with a mark.
 #[inline(always)]
 pub fn marked_number_at(line: &Line, column: usize) -> i128
     requires line { IsLine line.now }
@@ -169,9 +168,9 @@ pub fn reduced_pair(f: i128, p: i128) -> (i128, i128)
     (p / divisor, f / divisor)
 }
 
-/// A bound for the magnitudes of the integers of `a` times one row less `b` times another: |`a`|
-/// times `most` plus |`b`| times `other`, where `most` bounds the magnitudes of the integers of the
-/// one row and `other` those of the other row. `None` if this bound exceeds `bound`.
+/// |`a`| * `most` + |`b`| * `other`, a bound for the magnitudes of the integers of `a` times one
+/// row less `b` times another row, if `most` is a bound for those of the one row and `other` for
+/// those of the other row. `None` if the result would exceed `bound`.
 pub fn within_bound(a: i128, most: u128, b: i128, other: u128, bound: u128) -> Option<u128>
     requires { bound < 2 ^ 127 }
     ensures { MatchOption result (bound < nat_abs a * most + nat_abs b * other) (λ m. (m ≡ nat_abs a * most + nat_abs b * other) × (m ≤ bound)) }

@@ -25,13 +25,13 @@ pub struct Part {
     pub denominator: u128,
 }
 
-/// The greatest magnitude of an integer.
+/// The greatest magnitude that an integer or the denominator of a row may have.
 const MOST: u128 = (1 << 127) - 1;
 
-/// The least magnitude that does not fit in one word with a sign.
+/// The least number above 0 that does not fit in an `i64`.
 const WORD: u128 = 1 << 63;
 
-/// The least common multiple of both. None if it has more than 127 bits.
+/// The least common multiple of both; `None` if it exceeds 127 bits.
 fn multiple_of(m: u128, d: u128) -> Option<u128>
     requires first { 0 < m }
     requires second { 0 < d }
@@ -159,9 +159,9 @@ fn marks_of(parts: &[Part]) -> Marks
     marks
 }
 
-/// The row with `width` columns that has the entries `parts`, which are at distinct columns, and 0
-/// at every other column. `None` if over each common multiple of the entries' denominators that has
-/// at most 127 bits, some integer of the row has more than 127 bits. The only error is out of
+/// The row with `width` columns that has the entries `parts`, at distinct columns below `width`,
+/// and 0 at every other column. `None` if over each common multiple of the entries' denominators of
+/// at most 127 bits some integer of the row has more than 127 bits. The only error is out of
 /// memory.
 pub fn line_of_parts(
     alloc: Global,

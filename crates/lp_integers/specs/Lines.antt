@@ -19,10 +19,10 @@ AreDivided numbers divisor = (c : ℕ) → divisor ∣ nat_abs (whole_at numbers
 abbrev pub CombinationsStayWithin : ℕ → ℤ → ℤ → List ℤ → List ℤ → Type 0
 CombinationsStayWithin most a b numbers others = (c : ℕ) → nat_abs a * nat_abs (whole_at numbers c) + nat_abs b * nat_abs (whole_at others c) ≤ most
 
--- At each column below n, `after` has a times the number of `before` less b times that of `others`;
--- at later columns it has the number of `before`. The magnitudes of the changed numbers are at most
--- `most`, and `most` is at most any m for which `CombinationsStayWithin` holds: at each column the
--- magnitudes of the two products together are at most m.
+-- At each column below n the number of `after` is a times that of `before` less b times that of
+-- `others`; from column n on it is that of `before`. The magnitudes below column n are at most
+-- `most`. `most` is at most any m for which at each column the sum of the magnitudes of the two
+-- products is at most m (`CombinationsStayWithin`).
 pub record AreLessenedTo (a b : ℤ) (before others after : List ℤ) (n most : ℕ) : Type 0 where
   pub sized : length after ≡ length before
   pub done : (c : ℕ) → c < n → whole_at after c ≡ a *ℤ whole_at before c -ℤ b *ℤ whole_at others c
@@ -45,7 +45,7 @@ pub record AreNegatedTo (before after : List ℤ) (n : ℕ) : Type 0 where
 
 -- Each number of `after` is a times that of `before` less b times that of `others`. The magnitudes
 -- are at most `most`, and `most` is at most any m for which `CombinationsStayWithin` holds: at each
--- column the magnitudes of the two products together are at most m.
+-- column the sum of the magnitudes of the two products is at most m.
 pub record AreLessened (a b : ℤ) (before others after : List ℤ) (most : ℕ) : Type 0 where
   pub sized : length after ≡ length before
   pub numbers : (c : ℕ) → c < length before → whole_at after c ≡ a *ℤ whole_at before c -ℤ b *ℤ whole_at others c
@@ -68,10 +68,10 @@ pub record ArePlaces (numbers : List ℤ) (n : ℕ) (places : List ℕ) : Type 0
   pub apart : (i j c : ℕ) → slice_get places i ≡ Some c → slice_get places j ≡ Some c → i ≡ j
   pub all : (c : ℕ) → c < n → whole_at numbers c ≢ pos 0 → (i : ℕ) × (slice_get places i ≡ Some c)
 
--- From the numbers at the first n of these columns b times the other list's number is subtracted;
--- all other numbers are unchanged. The magnitudes of all numbers are at most `most`. `most` is at
--- least `least`, and at most any m from `least` on for which `CombinationsStayWithin` holds: at
--- each column the magnitudes of the number before and of the product together are at most m.
+-- At the first n columns of `places` `after` has the number of `before` less b times that of
+-- `others`; elsewhere it has that of `before`. All magnitudes in `after` are at most `most`. `most`
+-- is at least `least`, and at most any m from `least` on for which at each column the magnitudes of
+-- the number of `before` and of the product add up to at most m (`CombinationsStayWithin`).
 pub record AreLessenedAt (b : ℤ) (before others after : List ℤ) (places : List ℕ) (n least most : ℕ) : Type 0 where
   pub sized : length after ≡ length before
   pub done : (i c : ℕ) → i < n → slice_get places i ≡ Some c → whole_at after c ≡ pos 1 *ℤ whole_at before c -ℤ b *ℤ whole_at others c
@@ -80,10 +80,9 @@ pub record AreLessenedAt (b : ℤ) (before others after : List ℤ) (places : Li
   pub extended : least ≤ most
   pub small : (m : ℕ) → CombinationsStayWithin m (pos 1) b before others → least ≤ m → most ≤ m
 
--- Each number of `after` is that of `before` less b times that of `others`. The magnitudes are at
--- most `most`. `most` is at least `least`, and at most any m from `least` on for which
--- `CombinationsStayWithin` holds: at each column the magnitudes of the number before and of the
--- product together are at most m.
+-- At each column `after` has x - b y, where x and y are the numbers of `before` and `others`. The
+-- magnitudes in `after` are at most `most`. `most` is at least `least`, and at most any m from
+-- `least` on for which |x| + |b y| is at most m at each column (`CombinationsStayWithin`).
 pub record AreLessenedFrom (least : ℕ) (b : ℤ) (before others after : List ℤ) (most : ℕ) : Type 0 where
   pub sized : length after ≡ length before
   pub numbers : (c : ℕ) → c < length before → whole_at after c ≡ pos 1 *ℤ whole_at before c -ℤ b *ℤ whole_at others c

@@ -5,9 +5,9 @@ use Rattle.lp_integers.specs.declared.kept.Kept.{Kept}
 use Rattle.lp_integers.specs.declared.kept.Kept.TheVariants as kept
 use Rattle.lp_integers.specs.Lines.{AreWithin}
 
--- The list of all the integers, those that are 0 included, that is stored in one of three ways:
--- `Few` stores only those that are not 0, in one word each, `Narrow` stores all, in one word each,
--- and `Wide` all, in two words each.
+-- The list of all the integers, those that are 0 included, which `list` has in each case. `Few`
+-- stores only those that are not 0, in one word each, `Narrow` stores all, in one word each, and
+-- `Wide` all, in two words each.
 abbrev pub listed : Kept → List ℤ
 listed (kept.Few list) = list
 listed (kept.Narrow list) = list.items

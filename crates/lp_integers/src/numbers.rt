@@ -12,12 +12,12 @@ use crate::{narrow, wide};
 use std::alloc::{AllocError, Global};
 use std::marker::Model;
 
-/// The least magnitude that does not fit in one word with a sign.
+/// The least number above 0 that does not fit in an `i64`.
 const HALF: u128 = 1 << 63;
 
-/// A list of integers. Each takes one word of 64 bits, or each takes two; one suffices if no
-/// magnitude has more than 63 bits. If at most one in 16 is not 0, the list may store only those
-/// that are not 0. The way of storage changes no result.
+/// A list of integers. All are stored in one word of 64 bits each, if no magnitude has more than 63
+/// bits, or all in two words each. If at most one in 16 is not 0, the list may store only those
+/// that are not 0. The storage changes no result.
 #[derive(Drop)]
 pub struct Numbers {
     kept: Kept,
@@ -351,10 +351,10 @@ impl Numbers {
         }
     }
 
-    /// Stores only the numbers other than 0, if the list stores all its numbers, in one word each,
-    /// and `count` is at most one in 16 of the length; else the way of storage is unchanged.
-    /// `count` should be how many numbers are not 0. The numbers of the list are unchanged, unless
-    /// memory runs out, which is the only error.
+    /// Stores only the numbers other than 0, if the list so far stores each number in one word, and
+    /// `count` is at most a 16th of its length; else the storage is unchanged. `count` should be
+    /// how many numbers are not 0. On success the numbers are unchanged. The only error is out of
+    /// memory.
     pub fn spare_zeros(&mut self, alloc: Global, count: usize) -> Result<(), AllocError>
         ensures { IfOk result (λ _. self.new ≡ self.old) }
     {
@@ -408,9 +408,9 @@ impl Numbers {
         }
     }
 
-    /// Replaces each number x with `a` times x less `b` times y, where y is the number of `others`
-    /// at the same position. At each position the magnitudes of these two products together are at
-    /// most `within_bound`. Returns a bound of the magnitudes of the results, which is at most
+    /// Replaces each number x with a x - b y, where y is the number of `others` at the same
+    /// position. `others` must be as long as this list, `within_bound` below 2^127, and |a x| + |b
+    /// y| everywhere at most `within_bound`. Returns a bound of the results' magnitudes, at most
     /// `within_bound`. The only error is out of memory.
     pub fn lessen(
         &mut self,
@@ -475,15 +475,15 @@ impl Numbers {
         }
     }
 
-    /// Replaces each number x with x less `b` times y, where y is the number of `others` at the
-    /// same position. Only the numbers at `places` change, the positions at which `others` is not
-    /// 0. `least` has to bound the magnitudes before. At each position the magnitudes of x and of
-    /// `b` times y together have to be at most `within_bound`.
+    /// Replaces each number x with x - b y, where y is the number of `others` at the same position.
+    /// `others` must be as long as this list, and `places` must be, without repetition, the
+    /// positions at which `others` is not 0. `least` must bound the magnitudes in this list, and
+    /// `within_bound` must bound |x| + |b y| at each position.
     ///
-    /// Returns a bound of all magnitudes of this list after the change, which is at least `least`.
-    /// Returns `None`, and changes nothing, unless this list stores all its numbers in one word
-    /// each, `others` stores its numbers so or only those other than 0, and `least`, `within_bound`
-    /// and the magnitude of `b` are below 2^63.
+    /// Returns a bound of the magnitudes in this list after the change, at least `least`. Returns
+    /// `None`, and changes nothing, unless this list stores each number in one word, `others` does
+    /// so or stores only the numbers other than 0, and `least`, `within_bound` and |b| are below
+    /// 2^63.
     pub fn lessen_at(
         &mut self,
         b: i128,

@@ -11,18 +11,17 @@ use Rattle.lp_core.specs.Pivots.{IsChosen}
 use Rattle.lp_core.specs.LargestCoefficient.{HasTurned}
 use Rattle.lp_nocycle.specs.PivotCount.{twice_sets, variable_count, IsInterrupted}
 
--- a choice of the entering variable q at a dictionary d, to which `pivots` lead from the dictionary
--- `first`, follows Bland's rule whenever the search has turned to that rule in the phase of d
--- (`HasTurned`), after as many successive degenerate pivots as there are variables, variable 0
--- included
+-- `choice` lets q enter only by Bland's rule, at a dictionary d in whose phase the search has
+-- turned to that rule (`HasTurned`). `pivots` lead from the dictionary `first` to d. A search turns
+-- after as many successive degenerate pivots as there are variables, variable 0 included
 abbrev pub TurnsToBland : (Dictionary → List Pivot → Dictionary → ℕ → Type 0) → Type 0
 TurnsToBland choice =
     (first : Dictionary) (pivots : List Pivot) (d : Dictionary) (q : ℕ) → choice first pivots d q → HasTurned first pivots d → IsChosen Bland d q
 
--- a bound of the number of pivots over n variables, where n is `variables`: 2 times 2^n, twice the
--- number of subsets of the variables, times n + 1. In a phase a basis may occur once for each count
--- of successive degenerate pivots, from 0 to n - 1, before the search turns to Bland's rule, and
--- once after that
+-- a bound of the number of pivots over n = `variables` variables: 2 · 2^n · (n + 1). There are two
+-- phases and 2^n subsets of the variables. In a phase a basis may occur once for each count of
+-- successive degenerate pivots, from 0 to n - 1, before the search turns to Bland's rule, and once
+-- after that
 abbrev pub pivots_by_turn : ℕ → ℕ
 pivots_by_turn variables = twice_sets variables * (variables + 1)
 

@@ -41,15 +41,16 @@ cost_at {F} lp costs x = sum_by_ℚ (λ (q : ℕ × Column F). costs q.0 *ℚ va
 abbrev pub bound_of_costs : {F : Type 0} → (F → Number) → Lp F → (ℕ → Number) → List Number → Option Number
 bound_of_costs value lp costs duals = if lp.maximize then high value lp costs duals else low value lp costs duals
 
--- With this right side in row i, the program has a feasible point whose objective equals the bound
--- that these duals give.
+-- The program with this right side in row i has a feasible point whose objective equals the bound
+-- that these duals give for the program with this right side.
 abbrev pub MeetsBoundWithRight : {F : Type 0} → (F → Number) → Lp F → List Number → ℕ → Number → Type 0
 MeetsBoundWithRight value lp duals i right =
     (x : List Number) × Feasible itself (with_right i right (lp_numbers value lp)) x
     × (dual_bound itself (with_right i right (lp_numbers value lp)) duals ≡ Some (value_of_column x lp.objective))
 
--- With this cost of column j, there are duals, one for each row, whose bound (`bound_of_costs`) of
--- the sum of cost times value over the columns equals this sum at the values `levels`.
+-- With this cost of column j, there are duals, one for each row, whose bound of the sum of cost
+-- times value over the columns equals this sum at the values `levels`. The bound (`bound_of_costs`)
+-- is an upper one if the program maximizes, else a lower one.
 abbrev pub MeetsBoundWithCost : {F : Type 0} → (F → Number) → Lp F → List Number → ℕ → Number → Type 0
 MeetsBoundWithCost value lp levels j cost =
     (duals : List Number) × (length duals ≡ length lp.rows)

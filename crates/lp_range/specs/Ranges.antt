@@ -24,9 +24,8 @@ use Rattle.lp_range.specs.Spans.{Gain, Span, span}
 abbrev pub IsOptimum : {F : Type 0} → Answer F → Type 0
 IsOptimum {F} answer = (levels row_levels duals reduced : List F) × (answer.end ≡ Optimal levels row_levels duals reduced)
 
--- these legal pivots lead from the first dictionary of a program, where no pivot precedes them, to
--- the dictionary `last`, and no step exceeds the limit on the size of numbers; the first of them is
--- pivot 1
+-- these legal pivots lead from the first dictionary of a program to the dictionary `last`, and no
+-- step exceeds the limit on the size of numbers; the first of them is pivot 1
 abbrev pub LeadTo : {F : Type 0} → (F → Number) → ℕ → Lp F → List Pivot → Dictionary → Type 0
 LeadTo value limit lp pivots last = LeadsWithin (ByRule Legal) limit 1 [] (first_dictionary (standard_form value lp)) pivots last
 
@@ -52,14 +51,15 @@ module _ (limit : ℕ) (d : Dictionary) where
   right_gain sense.G v k = record { amount = constant_at d k; each = neg_ℚ (entry_at d k v); fits = true }
   right_gain sense.N v k = record { amount = constant_at d k; each = whole (pos 0); fits = true }
 
-  -- the constants of all rows of the dictionary, and how they change with the right side of a row
-  -- of the program of this sense (`right_gain`); v is the first slack of that row
+  -- the constants of the dictionary's rows, without the objective, and how they change with the
+  -- right side of one row of the program (`right_gain`): s is the sense of this row, such as `=l=`,
+  -- and v its first slack
   abbrev pub right_gains : Sense → ℕ → List Gain
   right_gains s v = map (right_gain s v) (range_with_len 0 (length d.basic))
 
-  -- for each of these rows, the values that its right side may take while each constant of the
-  -- dictionary remains at least 0, or None if a step exceeds the limit on the size of numbers; v is
-  -- the first slack of the first row
+  -- for each of these rows of the program, the values that its right side may take while the
+  -- constant of each row of the dictionary, the objective excepted, remains at least 0, or None if
+  -- a step exceeds the limit on the size of numbers; v is the first slack of the first row
   abbrev pub right_spans : {F : Type 0} → (F → Number) → ℕ → List (Row F) → List (Option Span)
   right_spans value v [] = []
   right_spans value v (row ∷ rows) = span limit (value row.right) (right_gains row.sense v) ∷ right_spans value (v + rows_of_sense row.sense) rows
@@ -72,10 +72,10 @@ module _ (limit : ℕ) (d : Dictionary) where
   abbrev pub change : ℕ → ℕ → Number
   change q v = change_by_row d q v (row_of_basic d v)
 
-  -- by how much a column changes if the variable q, which is not basic, rises by 1. The column is
-  -- given by the number v of its first variable and by its shift, how variables express it: a bound
-  -- plus variable v (`from_lower`), a bound less variable v (`from_upper`), or variable v less
-  -- variable v + 1 (`free`)
+  -- by how much a column's value changes if the nonbasic variable q rises by 1. The column is given
+  -- by the number v of its first variable and by its shift, how variables express it: a bound plus
+  -- variable v (`from_lower`), a bound less variable v (`from_upper`), or variable v less variable
+  -- v + 1 (`free`)
   abbrev pub column_change : ℕ × Shift → ℕ → Number
   column_change (v, from_lower b) q = change q v
   column_change (v, from_upper b) q = neg_ℚ (change q v)
@@ -89,23 +89,22 @@ module _ (limit : ℕ) (d : Dictionary) where
   column_change_fits (v, from_upper b) q = true
   column_change_fits (v, free) q = difference_fits limit (change q v) (change q (v + 1))
 
-  -- How far q is from entering, and how this changes with the cost of column c, per unit; c is the
-  -- first variable of the column and its shift. The amount is the negated coefficient of q in the
-  -- objective. Per unit of cost it changes by as much as the column does if q rises by 1, negated
-  -- when maximizing.
+  -- The amount is the negated coefficient of variable q in the objective: how far q is from
+  -- entering. `each` is its change per unit of the cost of column c: the change of the column as q
+  -- rises by 1, negated when maximizing. c is the first variable of the column and its shift.
   abbrev pub cost_gain : Bool → ℕ × Shift → ℕ → Gain
   cost_gain maximize c q =
       record { amount = neg_ℚ (entry_at d (length d.basic) q); each = neg_ℚ (directed maximize (column_change c q)); fits = column_change_fits c q }
 
-  -- how far each nonbasic variable is from entering, and how this changes with the cost of column
-  -- c, given by its first variable and its shift
+  -- for each nonbasic variable except variable 0: how far it is from entering, and how this changes
+  -- with the cost of column c, per unit; c is the first variable of the column and its shift, and
+  -- `maximize` is whether the program maximizes
   abbrev pub cost_gains : Bool → ℕ × Shift → List Gain
   cost_gains maximize c = map (cost_gain maximize c) nonbasic_variables
 
--- The ranges of right sides, one for each row: the values that the right side may take while each
--- constant of the dictionary remains at least 0. None if a step exceeds the limit on the size of
--- numbers. The first slack follows the `variables_of` variables of the columns, which are numbered
--- from 1.
+-- The range of each row's right side: the values that it may take while the constant of each row of
+-- the dictionary remains at least 0. None if a step exceeds the limit on the size of numbers. The
+-- first slack follows the `variables_of` variables of the columns, which are numbered from 1.
 abbrev pub rights : {F : Type 0} → (F → Number) → ℕ → Lp F → Dictionary → List (Option Span)
 rights value limit lp d = right_spans limit d value (variables_of value lp + 1) lp.rows
 
@@ -116,8 +115,8 @@ abbrev pub cost_spans : {F : Type 0} → ℕ → Dictionary → Lp F → ℕ →
 cost_spans limit d lp j columns =
     map (λ (p : ℕ × (ℕ × Shift)). span limit (objective_costs lp p.0) (cost_gains limit d lp.maximize p.1)) (enumerate_from j columns)
 
--- The ranges of costs, one for each column: the values that the cost, which is 1 for the objective
--- and else 0, may take while no variable improves. None if a step exceeds the limit on the size of
--- numbers.
+-- The ranges of costs, one for each column: the values that the column's cost, which is 1 for the
+-- objective column and 0 for any other, may take while no variable improves in the dictionary d.
+-- None if a step exceeds the limit on the size of numbers.
 abbrev pub costs : {F : Type 0} → (F → Number) → ℕ → Lp F → Dictionary → List (Option Span)
 costs value limit lp d = cost_spans limit d lp 0 (columns_of value lp)

@@ -9,7 +9,8 @@ use gq_field::ExactField;
 use lp_core::Sequence;
 use std::cmp::Ordering;
 
-/// An interval of numbers that includes its ends. It may have no end on either side.
+/// An interval of numbers that includes its ends. The lower end, the upper end or both may be
+/// missing.
 #[derive(Clone, Copy)]
 pub struct Interval<F> {
     /// The least number of the interval; `None` if the interval has no lower end.
@@ -18,19 +19,18 @@ pub struct Interval<F> {
     pub high: Option<F>,
 }
 
-/// The sensitivity ranges of a solved program: the values that each right side and each cost may
-/// have such that the final basis is still optimal, if all other numbers of the program stay the
-/// same.
+/// The sensitivity ranges of a solved linear program: for each right side and each cost, its values
+/// at which the final basis remains optimal if all other numbers of the program stay the same.
 #[derive(Drop)]
 pub struct Ranges<F> {
-    /// For each row, in order, the values that its right side may have such that the final basis is
-    /// still optimal, while all other numbers of the program stay the same. An entry is `None` if a
-    /// step that computes it exceeds the limit of the field.
+    /// For each row, in order, the right sides at which the final basis remains optimal while all
+    /// other numbers of the program stay the same. An entry is `None` if a step that computes it
+    /// exceeds the field's limit.
     pub rights: Sequence<Option<Interval<F>>>,
-    /// For each column, in order, the values that its cost may have such that the final basis is
-    /// still optimal, while all other numbers of the program stay the same. In the program itself
-    /// the cost is 1 for the column of the objective, and 0 for any other. An entry is `None` if a
-    /// step that computes it exceeds the limit of the field.
+    /// For each column, in order, the costs at which the final basis remains optimal while all
+    /// other numbers of the program stay the same. A column's cost is its factor in the objective:
+    /// in the program itself 1 for the objective's column, 0 for any other. An entry is `None` if a
+    /// step that computes it exceeds the field's limit.
     pub costs: Sequence<Option<Interval<F>>>,
 }
 

@@ -17,19 +17,20 @@ ghost use Rattle.lp_range.specs.Ranges.{IsOptimum};
 
 use gq_field::ExactField;
 
-/// A span, the interval of the values to which a given number may move, is the widest possible.
-/// Each of `gains` has an amount at the given number, and by how much this amount rises if the
-/// number rises by 1. Let each amount be at least 0 at the given number, and let the steps that
-/// compute the span fit under the limit. Then a number x is in the span exactly if each amount is
-/// at least 0 after the given number has moved to x.
+/// The span of `given`, the interval to which this number may move while some amounts stay at least
+/// 0, is the widest possible. Each gain has an amount at `given` and by how much it rises if the
+/// number rises by 1. Let each amount be at least 0, and let each step that computes the span fit
+/// under the limit. Then x is in the span exactly if each amount is at least 0 after the move from
+/// `given` to x.
 pub fn widest_span()
     ensures { (limit : ℕ) (given x : Number) (gains : List Gain) (s : Span) → All (λ g. whole (pos 0) ≤ℚ g.amount) gains →
         span limit given gains ≡ Some s → IsInSpan s x ↔ Stay gains (x -ℚ given) }
 {}
 
-/// Let the program with another right side in row `i` have a feasible point whose objective equals
-/// the bound that `duals` give for this program. Then no feasible point of it has a better
-/// objective (weak duality; Chvatal, Linear Programming, chapter 5).
+/// Let P be the program with the right side `right` in row `i`, from 0. Let the objective of a
+/// feasible point of P equal the bound that `duals` give for P. Then no feasible point of P has a
+/// lower objective when minimizing, or a higher one when maximizing (weak duality; Chvatal, Linear
+/// Programming, chapter 5).
 pub fn best_with_right<F: ExactField>()
     ensures least { (lp : Lp F) (duals : List Number) (i : ℕ) (right : Number) → IsWellFormed F.value lp → lp.maximize ≡ false →
         (meets : MeetsBoundWithRight F.value lp duals i right) → (x : List Number) →
@@ -39,10 +40,10 @@ pub fn best_with_right<F: ExactField>()
         Feasible itself (with_right i right (lp_numbers F.value lp)) x → value_of_column x lp.objective ≤ℚ value_of_column meets.0 lp.objective }
 {}
 
-/// The cost of a column is its factor in the objective: 1 for the column of the objective, and 0
-/// for any other. Let column `j` have the cost `cost` instead, and let some duals give a bound that
-/// equals the sum of cost times level over the columns, for the given levels. Then no feasible
-/// point has a better sum of cost times value.
+/// Let the cost of column `j` be `cost`, that of the objective's column, if another, 1, and any
+/// other cost 0. Let some duals give a bound on the sum of cost times value over the columns that
+/// equals this sum at `levels`. Then no feasible point has a smaller sum when minimizing, or a
+/// greater sum when maximizing.
 pub fn best_with_cost<F: ExactField>()
     ensures least { (lp : Lp F) (levels : List Number) (j : ℕ) (cost : Number) → IsWellFormed F.value lp → lp.maximize ≡ false →
         MeetsBoundWithCost F.value lp levels j cost → (x : List Number) →
@@ -52,9 +53,9 @@ pub fn best_with_cost<F: ExactField>()
         Feasible F.value lp x → cost_at lp (costs_with lp j cost) x ≤ℚ cost_at lp (costs_with lp j cost) levels }
 {}
 
-/// Take an answer that is an optimum by Bland's rule or by the rule Legal, under any limit of
-/// pivots. It is also an answer by the rule Legal, which allows every legal pivot, under a limit
-/// that equals the number of its pivots.
+/// Let an optimum be an answer by Bland's rule, or by the rule Legal, which allows every legal
+/// pivot, under some limit on the number of pivots. Then it is an answer by Legal under the limit
+/// that equals its number of pivots.
 pub fn legal_by_its_pivots<F: ExactField>()
     ensures bland { (lp : Lp F) (iterlim : ℕ) (answer : Answer F) → IsOptimum answer →
         IsAnswer F.value F.limit lp iterlim Bland answer → IsAnswer F.value F.limit lp (length answer.pivots) Legal answer }

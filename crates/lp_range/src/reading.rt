@@ -21,22 +21,24 @@ use lp_core::{Answer, Lp, Sequence};
 use lp_dict::Dict;
 use std::alloc::{AllocError, Global};
 
-/// The ranges of a program from its answer, which is required to be an optimum (Chvatal, Linear
-/// Programming, chapter 10).
+/// The ranges of a linear program: the values to which one right side or one cost may move while
+/// all other numbers stay and the final basis remains optimal (Chvatal, Linear Programming, chapter
+/// 10). `answer` must be an optimum with legal pivots.
 ///
-/// They are computed from the final dictionary, to which the pivots of the answer lead. The right
-/// side of a row may move while each constant of that dictionary remains at least 0: then the duals
-/// of the answer certify the program with the moved right side. The cost of a column may move while
-/// no entering variable would improve the objective: then some duals certify the levels of the
-/// answer for the moved cost. One number moves at a time.
+/// These pivots lead to the final dictionary. A right side may move while each row's constant
+/// there, except the objective's, remains at least 0: then the answer's duals certify an optimum of
+/// the moved program. A cost may move while no variable improves the objective there: then some
+/// duals certify the answer's levels for the moved cost.
 ///
 /// An interval is `None` exactly if one of its steps does not fit under the limit of the field. For
-/// a right side there are steps for each row of the final dictionary, for a cost for each nonbasic
-/// variable except variable 0. If the right side is that of an equation, the first step is the
-/// difference of the coefficients of its two slacks; if the column has no bounds, that of the
-/// changes of its two variables as the nonbasic one rises by 1. The next is the quotient at which
-/// the constant, or the variable's coefficient in the objective, becomes 0; there is none if it
-/// does not change. The last steps are the sums for the ends of the interval.
+/// a right side these are steps for each row except the objective's: for the right side of an
+/// equation, the difference of the row's coefficients of the equation's two slacks; then, if the
+/// row's constant changes with the right side, the quotient of the constant and its change per
+/// unit. For a cost these are steps for each nonbasic variable except variable 0: if the column has
+/// no bounds, the difference of the changes of the column's two variables as the nonbasic variable
+/// rises by 1; then, if the nonbasic variable's coefficient in the objective changes with the cost,
+/// the quotient of the coefficient and its change per unit. The last steps add the least and the
+/// greatest move, if any, to the right side or to the cost.
 ///
 /// The only error is out of memory.
 pub fn ranges<F: ExactField>(

@@ -11,9 +11,10 @@ use Rattle.lp_core.specs.Pivots.{IsChosen}
 use Rattle.lp_core.specs.Answers.{IsAnswerByChoice}
 use Rattle.lp_core.specs.LargestCoefficient.{HasTurned}
 
--- variable q may enter next, at the dictionary d to which `pivots` lead from `first`: if the search
--- has turned to Bland's rule in the phase of d, after as many successive degenerate pivots as there
--- are variables, q is the least variable that improves; else the rule `Picks` picks q
+-- variable q may enter next, at the dictionary d to which `pivots` lead from `first`. If the search
+-- has turned to Bland's rule in the phase of d, q is the improving variable with the least number;
+-- else `Picks` picks q. The search turns after n + 1 successive degenerate pivots of a phase; the
+-- variables, with slacks, are 0 to n
 abbrev pub IsNextBy : (Dictionary → ℕ → Type 0) → Dictionary → List Pivot → Dictionary → ℕ → Type 0
 IsNextBy Picks first pivots d q = (¬ (HasTurned first pivots d) × Picks d q) ⊎ (HasTurned first pivots d × IsChosen Bland d q)
 
@@ -22,8 +23,10 @@ IsNextBy Picks first pivots d q = (¬ (HasTurned first pivots d) × Picks d q) �
 abbrev pub AlwaysPicks : (Dictionary → ℕ → Type 0) → Type 0
 AlwaysPicks Picks = (d : Dictionary) → IsProper d → ((v : ℕ) × Improves d v) → (q : ℕ) × Picks d q
 
--- an answer of a program under `iterlim`, a limit of pivots, in which the entering variable is one
--- that the rule `Picks` picks; once the search has turned to Bland's rule, it is Bland's to the end
--- of the phase. `limit` bounds the numerators and denominators that the solver computes with
+-- an answer of a program under `iterlim`, a limit of pivots. Except in the opening pivot of phase
+-- 1, the entering variable is one that the rule `Picks` picks; but after as many successive
+-- degenerate pivots of a phase as there are variables, slacks and variable 0 included, Bland's rule
+-- picks to the end of the phase. `limit` bounds the numerators and denominators that the solver
+-- computes with
 abbrev pub IsTurningAnswer : {F : Type 0} → (F → Number) → ℕ → (Dictionary → ℕ → Type 0) → Lp F → ℕ → Answer F → Type 0
 IsTurningAnswer value limit Picks lp iterlim answer = IsAnswerByChoice value limit lp iterlim (IsNextBy Picks) answer

@@ -159,17 +159,18 @@ fn formless<F: ExactField>(alloc: Global, lp: &Lp<F>, stop: Stop) -> Result<End<
     }
 }
 
-/// An answer of a program, found by at most `iterlim` pivots. In each pivot except the opening one,
-/// in which variable 0 enters, `choice` picks the variable that enters, and of the variables that
-/// tie in the ratio test the one with the least number leaves: Chvatal, Linear Programming,
-/// chapters 2, 3 and 8. The caller must ensure that `choice` remembers no pivot at the start.
+/// An answer of the program `lp`, found by at most `iterlim` pivots: Chvatal, Linear Programming,
+/// chapters 2, 3 and 8. In the opening pivot variable 0 enters, and of the variables whose rows
+/// have the least constant the one with the least number leaves. In each other pivot `choice` picks
+/// the variable that enters, and of the variables that tie in the ratio test the one with the least
+/// number leaves. The caller must ensure that `choice` remembers no pivot at the start.
 ///
-/// If the bounds of a column cross, the end is Infeasible with the first such column, and no step
-/// is made. If a step of the standard form computes a numerator or a denominator beyond the field's
-/// limit, the end is Refused with the first such step. Otherwise pivots are made until none is
-/// required: then the end, Optimal, Infeasible or Unbounded, is read from the final dictionary. If
-/// a pivot is required after `iterlim` pivots, the end is Interrupted. If a later step exceeds the
-/// limit, the end is Refused with the first such step. The only error is out of memory.
+/// If the bounds of a column cross, the end is Infeasible with the first such column. Otherwise
+/// pivots are made until none is required, or `iterlim` are made. If a further pivot is then
+/// required, the end is Interrupted, else Optimal, Infeasible or Unbounded. If a step of the
+/// standard form, of a pivot or of reading the end from the final dictionary computes a numerator
+/// or a denominator beyond the field's limit, the end is Refused with the first such step. The only
+/// error is out of memory.
 pub fn solve_by<C: Choosing<F>, F: ExactField>(
     alloc: Global,
     lp: &Lp<F>,

@@ -8,8 +8,8 @@ use gq_field::ExactField;
 use lp_core::Pivot;
 use lp_dict::Dict;
 
-/// A way to choose the entering variable among those that improve (Chvatal, Linear Programming,
-/// chapters 2 and 3). The choice may depend on the dictionary and on the pivots before it, which a
+/// A choice of the entering variable among those that improve (Chvatal, Linear Programming,
+/// chapters 2 and 3). It may depend on the dictionary, the first one and the pivots so far, which a
 /// value of the type may remember.
 pub trait Choosing<F: ExactField> {
     /// The type of the rules that choosers of this type have.

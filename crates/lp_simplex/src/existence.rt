@@ -24,9 +24,9 @@ pub trait Finding {
     ghost always: { AlwaysChooses chooses };
 }
 
-/// A program has an answer under each limit of pivots and each rule for the entering variable that
-/// allows only variables that improve, and at least one whenever some variable improves: Chvatal,
-/// Linear Programming, chapters 2, 3 and 8.
+/// A well-formed linear program has an answer under each limit `iterlim` of pivots and each choice
+/// of the entering variable that allows only variables that improve, and at least one if some
+/// variable improves: Chvatal, Linear Programming, chapters 2, 3 and 8.
 pub fn an_answer<F: ExactField, C: Finding>()
     ensures { (lp : Lp F) (iterlim : ℕ) → IsWellFormed F.value lp →
         (answer : Answer F) × IsAnswerByChoice F.value F.limit lp iterlim C.chooses answer }

@@ -13,19 +13,20 @@ use gq_field::ExactField;
 use lp_core::{Answer, Lp};
 use std::alloc::{AllocError, Global};
 
-/// An answer of a program by `rule` with a turn to Bland's rule, found by at most `iterlim` pivots:
-/// Chvatal, Linear Programming, chapters 2 and 3.
+/// An answer of the linear program `lp`, found by at most `iterlim` pivots: Chvatal, Linear
+/// Programming, chapters 2 and 3.
 ///
-/// In each pivot except the opening one, in which variable 0 enters, a variable that `rule` picks
-/// enters, and of those that tie in the ratio test the one with the least number leaves. After as
-/// many successive degenerate pivots of one phase as there are variables, slacks and variable 0
-/// included, Bland's rule takes over to the end of the phase (the turn).
+/// Let n be the number of variables of the standard form, slacks and variable 0 included. In the
+/// opening pivot variable 0 enters, and of the variables whose rows have the least constant the one
+/// with the least number leaves. In each other pivot an improving variable enters. `rule` picks it,
+/// but after n successive degenerate pivots of one phase Bland's rule picks it, to the end of this
+/// phase. Of the variables that tie in the ratio test the one with the least number leaves.
 ///
-/// An answer whose end is Optimal, Infeasible or Unbounded has a certificate of this end.
-/// Interrupted is the end after exactly `iterlim` pivots if a further one is required. Refused has
-/// the first step that computes a numerator or a denominator beyond the limit of the field. With n
-/// variables the answer has fewer than 2^n times 2(n + 1) pivots, and if `iterlim` is at least that
-/// number, the end is not Interrupted. The only error is out of memory.
+/// The answer has fewer than 2 * 2^n * (n + 1) pivots; if `iterlim` is at least this number, its
+/// end is not Interrupted. An end Optimal, Infeasible or Unbounded has a certificate. The end is
+/// Interrupted if a further pivot is required after `iterlim` pivots. The end Refused has the first
+/// step that computes a numerator or a denominator beyond the field's limit. The only error is out
+/// of memory.
 pub fn solve_with<P: Picking<F>, F: ExactField>(
     alloc: Global,
     lp: &Lp<F>,

@@ -12,18 +12,18 @@ use Rattle.lp_core.specs.Pivots.{IsChosen}
 use Rattle.lp_slot.specs.declared.solver.SolverRule.{SolverRule}
 use Rattle.lp_slot.specs.declared.solver.SolverRule.TheVariants.{Bland, LargestCoefficient, Turning, Legal}
 
--- variable q may enter next, at the dictionary d, which the pivots so far reach from the dictionary
--- `first`: until the search has turned to Bland's rule in the phase of d, after as many successive
--- degenerate pivots as there are variables, variable 0 included, q improves; from then on, it is
--- the least variable that improves
+-- variable q may enter next, at the dictionary d, which the pivots so far reach from `first`: q
+-- improves, and if the search has turned to Bland's rule in the phase of d, no improving variable
+-- has a lesser number. It turns after as many successive degenerate pivots as there are variables,
+-- variable 0 included
 abbrev pub IsNextImproving : Dictionary → List Pivot → Dictionary → ℕ → Type 0
 IsNextImproving first pivots d q = (¬ (HasTurned first pivots d) × Improves d q) ⊎ (HasTurned first pivots d × IsChosen by.Bland d q)
 
--- an answer of a program under `iterlim`, a limit of pivots, and the rule by which a solver chooses
--- pivots: Bland's rule; the largest coefficient, or any improving variable (Turning), until in a
--- phase, after as many successive degenerate pivots as there are variables, variable 0 included,
--- the search turns to Bland's rule; or any legal pivot. `limit` bounds the numerators and
--- denominators that the solver computes with
+-- an answer of a program, with at most `iterlim` pivots, by the rule with which a solver chooses
+-- pivots: Bland's rule; LargestCoefficient; Turning, any improving variable; Legal, any legal
+-- pivot. By LargestCoefficient and Turning the search turns to Bland's rule, to the end of the
+-- phase, after as many successive degenerate pivots in the phase as there are variables, variable 0
+-- included. `limit` bounds the numerators and denominators that the solver computes with
 abbrev pub IsAnswerUnder : {F : Type 0} → (F → Number) → ℕ → Lp F → ℕ → SolverRule → Answer F → Type 0
 IsAnswerUnder value limit lp iterlim Bland answer = IsAnswer value limit lp iterlim by.Bland answer
 IsAnswerUnder value limit lp iterlim LargestCoefficient answer = IsLargestAnswer value limit lp iterlim answer

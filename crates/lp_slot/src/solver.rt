@@ -27,11 +27,11 @@ pub enum SolverRule {
     Legal,
 }
 
-/// A solver of linear programs over exact numbers.
+/// A solver of linear programs over exact rational numbers.
 ///
-/// A solver exposes the name by which a source chooses it, the rule by which it chooses pivots, and
-/// the pivots of each answer that it has given so far. A call of `solve` changes nothing but the
-/// last of these, the lists of pivots.
+/// A solver exposes its name, by which a GAMS source chooses it, the rule by which it chooses
+/// pivots, and the list of pivots of each answer that it gave. `solve` can only append one more
+/// list; name and rule stay.
 pub trait LpSolver: Drop {
     /// The name by which a source chooses the solver.
     ghost name: { Self → List ℕ };

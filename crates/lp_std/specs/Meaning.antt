@@ -36,8 +36,8 @@ entries_value {F} value entries = map (λ (e : ℕ × F). (e.0, value e.1)) entr
 abbrev pub row_value : {F : Type 0} → (F → Number) → StdRow F → form.StandardRow
 row_value value row = record { right = value row.right; entries = entries_value value row.entries; origin = origin_value row.origin }
 
--- a standard form with the numbers that its values mean; the variables of the shifts are numbered
--- from 1
+-- a standard form with the numbers that its values mean; each column's shift, by which variables
+-- express the column, gets the number of the first of these variables, from 1
 abbrev pub standard_value : {F : Type 0} → (F → Number) → Standard F → form.Standard
 standard_value value s =
     record {

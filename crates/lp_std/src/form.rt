@@ -152,19 +152,19 @@ fn formed<F: ExactField>(alloc: Global, lp: &Lp<F>) -> Result<Standard<F>, Stop>
     })
 }
 
-/// The standard form of a program, as in Chvatal, Linear Programming, chapter 1: variables that are
-/// at least 0 express each column, each row is at most its right side, and the objective, negated
-/// when minimizing, is to be maximized.
+/// The standard form of a linear program, as in Chvatal, Linear Programming, chapter 1: maximize
+/// the objective, negated when minimizing, over variables that are at least 0; the sum of each row
+/// is at most its right side.
 ///
-/// A column with a lower bound is that bound plus a variable; one with only an upper bound is that
-/// bound less a variable; one without bounds is the difference of two variables. A `=l=` row is
-/// kept, a `=g=` row is negated, an `=e=` row gives both, an `=n=` row gives none; after these,
-/// each column with two bounds gives a row. The bounds, each times the column's coefficient, are
-/// subtracted from the right sides.
+/// A column with a lower bound is replaced by that bound plus a variable; one with only an upper
+/// bound by that bound less a variable; one without bounds by the difference of two variables. The
+/// constants of rows move to the right sides. A `=l=` row is kept, a `=g=` row is negated, an `=e=`
+/// row gives itself, then its negation; an `=n=` row gives none. Then each column with two bounds
+/// gives a row: its variable is at most the bounds' difference.
 ///
-/// The error `Crossed` has the first column whose lower bound exceeds its upper bound; this error
-/// comes before any other. `Limit` has the first step that does not fit under the limit of the
-/// field, and `Memory` means out of memory.
+/// If a lower bound exceeds the upper bound, `Crossed` has the first such column. Else `Limit`
+/// names the first step whose result does not fit under the field's limit, in the order of the
+/// rows, then of the columns with two bounds. `Memory`, out of memory, can always occur.
 pub fn standard<F: ExactField>(alloc: Global, lp: &Lp<F>) -> Result<Standard<F>, Stop>
     requires well_formed { IsWellFormed F.value lp.now }
     ensures form { IfOk result (λ s. standard_value F.value s ≡ form.standard_form F.value lp.now) }

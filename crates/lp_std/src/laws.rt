@@ -10,10 +10,9 @@ ghost use Rattle.lp_std.specs.Points.{AreAtLeastZero, KeepsRows, objective_at};
 
 use gq_field::ExactField;
 
-/// A standard form and its program have the same points: values of variables that are at least 0
-/// satisfy the rows of the form exactly if the point that they express is feasible. The form's
-/// objective is that of the point, negated when minimizing (Chvatal, Linear Programming, chapter
-/// 1).
+/// A standard form and its linear program have the same points: values, at least 0, of the form's
+/// variables satisfy its rows exactly if the point that they express is feasible. The objective of
+/// the form is the program's, negated when minimizing (Chvatal, Linear Programming, chapter 1).
 pub fn same_points<F: ExactField>()
     ensures points { (lp : Lp F) (y : List Number) → IsWellFormed F.value lp → AreAtLeastZero y →
         KeepsRows (standard_form F.value lp) y ↔ Feasible F.value lp (point_of (standard_form F.value lp) y) }

@@ -218,21 +218,18 @@ pub(crate) fn led_back<F: ExactField>(
     }
 }
 
-/// The end of a search for a program's answer, from the final dictionary of the program's standard
-/// form, as in Chvatal, Linear Programming, chapters 1, 5 and 9.
+/// The end of a search for an answer of `lp`, recovered from the final dictionary of its standard
+/// form `s`, as in Chvatal, Linear Programming, chapters 1, 5 and 9.
 ///
 /// `dict` has what was read from the dictionary. At `Optimal` the end has the levels of columns and
-/// rows, the duals of rows and the reduced costs of columns; at `Infeasible` factors of the rows;
-/// at `Unbounded` levels and a ray; at `Interrupted` the levels of phase 2. The dual of a row comes
-/// from the coefficients of the row's slacks. The reduced cost of a column comes from the
-/// coefficients of the column's variables and, if the column has two bounds, of the slack of the
-/// row for them. When minimizing, duals and reduced costs are negated. What the end has proves it
-/// from the program's rows and bounds; for `Interrupted` this means only that the levels are
-/// feasible.
+/// rows, the duals of rows and the reduced costs of columns; at `Infeasible` Farkas multipliers of
+/// the rows; at `Unbounded` the levels of columns and rows, and a ray; at `Interrupted` phase 2 and
+/// the levels of columns and rows. These values prove the end from the program's rows and bounds;
+/// for `Interrupted` only that the levels are feasible.
 ///
-/// The error `Limit` has the first step that does not fit under the limit of the field, in the
-/// order levels, row levels, duals, reduced costs, ray. `Memory` means out of memory, and `Crossed`
-/// does not occur.
+/// `Limit` names the first step that does not fit under the limit of the field, in this order:
+/// levels of columns, levels of rows, duals or multipliers of rows, reduced costs, ray. `Memory`
+/// means out of memory, and can always occur. `Crossed` does not occur.
 pub fn recover<F: ExactField>(
     alloc: Global,
     lp: &Lp<F>,

@@ -30,8 +30,8 @@ pub struct StdRow<F> {
     /// The right side of the row: the sum of the row's coefficients, each times its variable, is at
     /// most this number.
     pub right: F,
-    /// The row's variables, by ascending number, each as its number and its coefficient. The slack
-    /// of the row is not among them.
+    /// For each variable of the row, by ascending number, its number and coefficient. The slack of
+    /// the row is not among them.
     pub entries: Sequence<(u32, F)>,
     /// The row or column of the program from which this row of the standard form comes.
     pub origin: Origin,
@@ -48,20 +48,20 @@ impl<F: Drop> Drop for StdRow<F> {
     }
 }
 
-/// A program in standard form: variables that are at least 0, rows at most their right sides, and
-/// an objective to maximize.
+/// A linear program in standard form: variables at least 0, rows whose sums are at most their right
+/// sides, an objective to maximize.
 ///
-/// The variables of the columns have the numbers from 1 in the order of the columns, two for a free
-/// column. The slacks follow in the order of the rows. Chvatal, Linear Programming, chapter 1.
+/// The variables of the original columns are numbered from 1 in the order of columns, two for one
+/// without bounds. The rows' slacks follow. Chvatal, Linear Programming, chapter 1.
 pub struct Standard<F> {
     /// How variables that are at least 0 express each column of the program, in the order of
     /// columns.
     pub shifts: Sequence<Shift<F>>,
-    /// The rows of the standard form: first those that come from the program's rows, then one for
-    /// each column of the program with two bounds.
+    /// The rows of the standard form: first those that come from the program's rows, in order, then
+    /// one for each column of the program with two bounds.
     pub rows: Sequence<StdRow<F>>,
-    /// The coefficients of the objective, one for each variable that is no slack, from variable 1
-    /// on.
+    /// The coefficients of the objective of the standard form, one for each variable that is no
+    /// slack, in the order of the variables' numbers, which begin with 1.
     pub objective: Sequence<F>,
     /// The constant term of the objective of the standard form.
     pub constant: F,
@@ -84,17 +84,16 @@ impl<F: Drop> Drop for Standard<F> {
 pub struct Final<F> {
     /// How the search for an answer of the program ended.
     pub kind: EndKind,
-    /// The value of each variable at the point of the final dictionary, in the order of the
-    /// variables' numbers from 0.
+    /// The value of each variable, by its number from 0, in the solution of the final dictionary in
+    /// which each nonbasic variable is 0.
     pub values: Sequence<F>,
-    /// The coefficient of each variable in the final dictionary, in the order of the variables'
-    /// numbers from 0; 0 for a basic variable, also for variable 0. If the search ended as
-    /// `Infeasible`, it is the coefficient in the row of variable 0, which states that variable 0
-    /// plus the sum of the other terms equals the constant; else it is the coefficient in the
-    /// objective.
+    /// The coefficient of each variable, in the order of their numbers from 0, in the priced row of
+    /// the final dictionary; 0 for each basic variable. If the search ended as `Infeasible`, the
+    /// row is that of the basic variable 0: variable 0 plus the sum of the terms equals a constant.
+    /// Else it is the objective: a constant plus the sum of the terms.
     pub costs: Sequence<F>,
-    /// The change of each variable along the ray, as the entering variable rises by 1, in the order
-    /// of the variables' numbers from 0, if the search ended as `Unbounded`; else an empty list.
+    /// If the search ended as `Unbounded`, the change of each variable, in the order of their
+    /// numbers from 0, as the entering variable (which no row limits) rises by 1. Else it is empty.
     pub ray: Sequence<F>,
 }
 
