@@ -19,8 +19,8 @@ use Rattle.gms_check.specs.CompileErrors.{has_error, known_after}
 use Rattle.gms_check.specs.Loaded.{sound}
 
 module _ {F : Type 0} where
-  -- Indices that fit a name: they are as many as its positions, and at most 10. Each set among them
-  -- is one-dimensional, and ordered if it has a lag. Where the domain of the name has a set at a
+  -- Indices that fit a name: as many as the name's positions, and at most 10. Each set among them
+  -- is one-dimensional, and ordered if it has a lag. Where the name's domain has a set at a
   -- position, that set is one-dimensional and declared before the name, and the index there is a
   -- label that is a member of that set, or that set itself, or a set below it by domain sets.
   pub record AreIndices (known : Known F) (name : ℕ) (indices : Indices F) : Type 0 where
@@ -39,11 +39,12 @@ module _ {F : Type 0} where
     pub fitting : AreIndices known name indices
     pub controls : All (λ index. is_among controlled index ≡ true) (index_sets indices)
 
-  -- what holds of a use in a program without errors. A reference is one without errors. The set of
-  -- an `ord` is one-dimensional, controlled and ordered; that of a `card` is a set. The sets of a
-  -- control are at most 10, one-dimensional, and none is controlled twice. A name that is assigned
-  -- or defined is declared and of a kind that admits this, and its indices fit it. Any other use
-  -- has no error of any kind
+  -- what holds of a use in a program without errors. The name of a reference is declared, and its
+  -- context admits it with its suffix; its indices fit it, and the sets among them are controlled.
+  -- The set of an `ord` is one-dimensional, controlled and ordered; a `card` has a set's name. The
+  -- sets of a control are at most 10, one-dimensional, and none is controlled twice. A name that is
+  -- assigned or defined is declared and of a kind that admits this, and its indices fit it. Any
+  -- other use has no error of any kind
   abbrev pub IsSound : Known F → Use F → Type 0
   IsSound known (reading context controlled name suffix indices) = IsReading known context controlled name suffix indices
   IsSound known (ordinal context controlled name) =
@@ -65,10 +66,9 @@ module _ {F : Type 0} where
   abbrev pub FollowsIn : Program F → List (Stmt F) → Stmt F → Type 0
   FollowsIn program before statement = (rest : List (Stmt F)) × (program.statements.items ≡ before ++ statement ∷ rest)
 
-  -- all uses of each statement of the program are sound, by what is known after the statements
-  -- before it, each marked as one without an error; no sets are controlled around the statement
-  -- (`[]`). `value` gives the number that a value of `F` means, and `solvers` are the names of the
-  -- solvers
+  -- All uses of each statement of the program are sound, by what is known after the statements
+  -- before it if none of these has an error. No sets are controlled around the statement (`[]`).
+  -- `value` gives the number that a value of `F` means, and `solvers` are the names of the solvers
   abbrev pub IsChecked : (F → Number) → Program F → List (List ℕ) → Type 0
   IsChecked value program solvers =
       (before : List (Stmt F)) (statement : Stmt F) → FollowsIn program before statement → AreSound (known_after value program solvers (sound before)) (statement_uses statement (known_after value program solvers (sound before)).state [])

@@ -71,7 +71,7 @@ module _ {F : Type 0} where
   abbrev pub errors_at : Known F → Place × Use F → List CompileError
   errors_at known (at, used) = map (λ kind. record { kind = kind; at = at }) (filter (has_error known used) checked_kinds)
 
-  -- the errors of uses, by what is known, in the order of the uses
+  -- the compile errors of these uses, use by use; `known` is what is known before the uses
   abbrev pub errors_of : Known F → Uses F → List CompileError
   errors_of known uses = flat_map (errors_at known) uses
 
@@ -99,10 +99,10 @@ module _ {F : Type 0} where
   model_errors known (model ∷ models) =
       errors_of known (model_uses model) ++ model_errors (known_in known (declare_model known.state model.named.name)) models
 
-  -- all errors of `statement`, whose act is given: of a declaration those of its kind, and those of
-  -- each name by what is known after the names before it; of a model statement those of each model,
-  -- likewise; of any other statement those of its uses, where no sets are controlled around the
-  -- statement (`[]`)
+  -- all errors of `statement`, whose act is given: of a declaration Discrete, if it is of discrete
+  -- variables, and those of each name by what is known after the earlier names; of a model
+  -- statement those of each model by what is known after the earlier models; else those of its
+  -- uses, with no controlled sets around it (`[]`)
   abbrev pub act_errors : Known F → Stmt F → Act F → List CompileError
   act_errors known statement (Declare kind items) = errors_of known (kind_uses statement.at kind) ++ declaration_errors known kind items
   act_errors known statement (Model models) = model_errors known models
@@ -122,7 +122,8 @@ module _ {F : Type 0} where
   names_before program past = filter (of_program program (λ name. true)) (declared_names past)
 
   -- the models of the program that the statements `past` declare, in order, each with those of its
-  -- equations that the state declares as equations; no equation is declared before `past` (`[]`)
+  -- equations that the state declares as equations. A model with `/all/` has the equations that the
+  -- statements before its statement declare; a model of a statement with an error has none
   abbrev pub models_before : State → Program F → Past F → List (ℕ × List ℕ)
   models_before state program past =
       map (λ (model : ℕ × List ℕ). (model.0, filter (λ equation. is_equation (declared_kind state equation)) model.1)) (filter (λ (model : ℕ × List ℕ). of_program program (λ name. true) model.0) (models_after [] past))
@@ -133,26 +134,26 @@ module _ {F : Type 0} where
   known_after value program solvers past =
       record { value = value; state = state_after value (length program.names) past; declared = names_before program past; above = directly_above (state_after value (length program.names) past) (names_before program past); assigned = of_program program (is_among (dynamic_sets program)); unordered = of_program program (is_unordered past); defined = of_program program (is_defined past); models = models_before (state_after value (length program.names) past) program past; solvers = solvers }
 
-  -- the error of each of these statements, None if it has none, where the statements `past`, each
-  -- with whether it has no error, come before them; `value` gives the number that a value of `F`
-  -- means, and `solvers` are the names of the solvers
+  -- the first error of each of these statements, None if the statement has none; the statements
+  -- `past`, each with whether it has no error, come before these. `value` gives the number that a
+  -- value of `F` means, and `solvers` are the names of the solvers
   abbrev pub each_error : (F → Number) → Program F → List (List ℕ) → Past F → List (Stmt F) → List (Option CompileError)
   each_error value program solvers past [] = []
   each_error value program solvers past (statement ∷ rest) =
       statement_error (known_after value program solvers past) statement ∷ each_error value program solvers (past ++ (statement, is_none (statement_error (known_after value program solvers past) statement)) ∷ []) rest
 
-  -- the errors of these statements, in order, at most one of each, where the statements `past`,
-  -- each with whether it has no error, come before them; `value` gives the number that a value of
-  -- `F` means, and `solvers` are the names of the solvers
+  -- the first error of each of these statements that has one, in order; the statements `past`, each
+  -- with whether it has no error, come before these. `value` gives the number that a value of `F`
+  -- means, and `solvers` are the names of the solvers
   abbrev pub errors_after : (F → Number) → Program F → List (List ℕ) → Past F → List (Stmt F) → List CompileError
   errors_after value program solvers past statements = flat_map option_to_list (each_error value program solvers past statements)
 
-  -- the error of each statement of a program, None if it has none; `value` gives the number that a
-  -- value of `F` means, and `solvers` are the names of the solvers
+  -- the first error of each statement of a program, None if the statement has none; `value` gives
+  -- the number that a value of `F` means, and `solvers` are the names of the solvers
   abbrev pub statement_errors : (F → Number) → Program F → List (List ℕ) → List (Option CompileError)
   statement_errors value program solvers = each_error value program solvers [] program.statements.items
 
-  -- the compile errors of a program, in order, at most one of each statement; `value` gives the
-  -- number that a value of `F` means, and `solvers` are the names of the solvers
+  -- the compile errors of a program, in order: of each statement the first error, if it has one;
+  -- `value` gives the number that a value of `F` means, and `solvers` are the names of the solvers
   abbrev pub compile_errors : (F → Number) → Program F → List (List ℕ) → List CompileError
   compile_errors value program solvers = errors_after value program solvers [] program.statements.items

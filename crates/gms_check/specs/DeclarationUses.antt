@@ -69,14 +69,14 @@ module _ {F : Type 0} where
   data_uses known domain items =
       map (λ (item : Item F). (item.at, placing (length domain) (length item.parts))) items ++ expansion_uses known domain items
 
-  -- the uses of one name in a declaration of this kind: the name, the sets of its written domain,
-  -- and its data, for the positions that its kind and written domain give
+  -- the uses of one name in a declaration of this kind: of the name itself, of each set of its
+  -- written domain, and of its data, for the positions that the kind and the written domain give
   abbrev pub item_uses : Known F → DeclKind → Decl F → Uses F
   item_uses known kind item =
       (item.named.at, naming kind item.named.name (names_of item.domain)) ∷ (flat_map domain_use item.domain ++ data_uses known (positions_of kind (names_of item.domain)) item.items)
 
-  -- the use of the kind of a declaration at this place: `not_continuous` if the kind is of discrete
-  -- variables, otherwise none
+  -- the uses that the kind of a declaration at this place has: `not_continuous` if the kind is of
+  -- discrete variables, otherwise none
   abbrev pub kind_uses : Place → DeclKind → Uses F
   kind_uses at declaring.Discrete = (at, not_continuous) ∷ []
   kind_uses at kind = []

@@ -22,9 +22,9 @@ module _ {F : Type 0} where
   index_count (set name rest) = index_count rest + 1
   index_count (lagged name op at amount rest) = index_count rest + 1
 
-  -- WrongArity: a reference or a left side has more or fewer indices, or an item of data more or
-  -- fewer positions, than the name has positions, or more than 10; a control has more than 10 sets;
-  -- a name is declared with more than 10 positions
+  -- WrongArity: the number of indices of a reference or a left side, or the number of positions of
+  -- an item of data (2 for `a.b`), is not the number of positions of its name, or is over 10; a
+  -- fold or a loop controls more than 10 sets; a name is declared with more than 10 positions
   abbrev pub wrong_arity : Known F → Use F → Bool
   wrong_arity known (reading context controlled name suffix indices) = is_wrong_count (length (positions known.state name)) (index_count indices)
   wrong_arity known (assigning name suffix indices) = is_wrong_count (length (positions known.state name)) (index_count indices)
@@ -46,9 +46,9 @@ module _ {F : Type 0} where
   abbrev pub has_unfit_label : Known F → ℕ → List (Option ℕ) → Indices F → Bool
   has_unfit_label known name domain indices = have_unfit_label known.state known.declared name domain indices
 
-  -- DomainOfSet: an index is a set that is neither the set of its position nor below that by domain
-  -- sets, or the set of its position is not one-dimensional or not declared before the name that
-  -- has the index
+  -- DomainOfSet: an index is a set that does not fit its position: the index is neither the set of
+  -- the position nor below this set by domain sets, or the set of the position is not
+  -- one-dimensional or not declared before the name that has the index
   abbrev pub domain_of_set : Known F → Use F → Bool
   domain_of_set known (reading context controlled name suffix indices) = has_unfit_set known name (positions known.state name) indices
   domain_of_set known (assigning name suffix indices) = has_unfit_set known name (positions known.state name) indices

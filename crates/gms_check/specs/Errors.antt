@@ -72,7 +72,8 @@ abbrev pub earlier : CompileError → Option CompileError → CompileError
 earlier error None = error
 earlier error (Some other) = if comes_first other error then other else error
 
--- the one of two errors that comes first; None if there is neither
+-- the one of two errors that comes first, by its place, and at one place by its number; None if
+-- there is neither
 abbrev pub sooner : Option CompileError → Option CompileError → Option CompileError
 sooner None other = other
 sooner (Some error) other = Some (earlier error other)

@@ -75,11 +75,11 @@ module _ {F : Type 0} where
 
   -- WrongKind: a symbol with its suffix, a number, an infinity, NA, `yes` or `no`, `ord`, `card`, a
   -- function, a fold, a division, a power, a relation, `and`, `or` or `xor` occurs in a context
-  -- that does not admit it (a multiplication may occur in any); `ord` or `card` is of no set; a
-  -- name of an alias is declared before, but is no set; an index, a control or a domain has a name
-  -- that is no one-dimensional set; an amount of a lag on the left is neither a literal integer nor
-  -- a scalar; what is assigned, defined, listed in a model, solved, optimized or displayed is of a
-  -- kind that does not admit this
+  -- that does not admit it (a multiplication may occur in any); `ord` or `card` names no set; a
+  -- name of an alias is declared before, but is no set; an index, a controlled set or a domain is
+  -- no one-dimensional set; an amount of a lag on the left is neither an integer literal nor a
+  -- scalar; what is assigned, defined, listed in a model, solved, optimized or displayed is of
+  -- another kind than this requires
   abbrev pub wrong_kind : Known F → Use F → Bool
   wrong_kind known (literal context) = not context.numbers
   wrong_kind known (truth context) = not context.membership

@@ -20,8 +20,8 @@ abbrev pub ignored : List (List ℕ)
 ignored =
     codes "reslim" ∷ codes "optcr" ∷ codes "optca" ∷ codes "domlim" ∷ codes "bratio" ∷ codes "sysout" ∷ codes "solslack" ∷ codes "nlp" ∷ codes "mip" ∷ codes "rmip" ∷ codes "dnlp" ∷ codes "mcp" ∷ []
 
--- the options that admit other values: for `decimals` a number of decimals, for `solprint` `on` or
--- `off`, for `lp` the name of a solver
+-- the options with an effect that are not in `counts`: `decimals` is set to a number of decimals,
+-- `solprint` to `on` or `off`, `lp` to the name of a solver
 abbrev pub other_options : List (List ℕ)
 other_options = codes "decimals" ∷ codes "solprint" ∷ codes "lp" ∷ []
 

@@ -47,7 +47,7 @@ module _ {F : Type 0} where
   names_declared (Model models) = map (λ (model : ModelDecl). model.named.name) models
   names_declared act = []
 
-  -- the names that the statements before declare, in order
+  -- the names that the statements `past` declare, in order
   abbrev pub declared_names : Past F → List ℕ
   declared_names past = flat_map (λ p. names_declared p.0.act) past
 
@@ -69,14 +69,15 @@ module _ {F : Type 0} where
 
   -- ---- models
 
-  -- the models that an act declares, each with its equations, where the equations `declared` are
-  -- declared before it, and `sound` is whether its statement has no error
+  -- the models that an act declares, each with its equations: the listed ones, or for `/all/` the
+  -- equations `declared`, which are declared before it. A model has no equations if the statement
+  -- of the act has an error (`sound` is false)
   abbrev pub models_declared_by : List ℕ → Bool → Act F → List (ℕ × List ℕ)
   models_declared_by declared sound (Model models) = map (λ (model : ModelDecl). (model.named.name, equations_listed declared sound model)) models
   models_declared_by declared sound act = []
 
   -- the models that these statements declare, each with its equations, where the equations
-  -- `declared` are declared before them
+  -- `declared` are declared before them; a model of a statement with an error has no equations
   abbrev pub models_after : List ℕ → Past F → List (ℕ × List ℕ)
   models_after declared [] = []
   models_after declared (p ∷ past) = models_declared_by declared p.1 p.0.act ++ models_after (declared ++ equations_declared p.0.act) past
@@ -123,7 +124,8 @@ module _ {F : Type 0} (value : F → Number) where
   abbrev pub after_statement : State → Stmt F × Bool → State
   after_statement state (statement, sound) = if sound then after_act state statement.act else declared_by state statement.act
 
-  -- the state after the declarations of these statements, in a program of `names` names
+  -- the state after the declarations of these statements, in a program of `names` names; it has the
+  -- data of a statement only if the statement has no error
   abbrev pub state_after : ℕ → Past F → State
   state_after names past = fold after_statement (blank_state names) past
 
@@ -131,8 +133,8 @@ module _ {F : Type 0} (value : F → Number) where
 pub record Known (F : Type 0) : Type 0 where
   -- the number that a value of `F` means
   pub value : F → Number
-  -- the names that the statements before declare, with their data; within a declaration, also the
-  -- names before
+  -- the names that the statements before declare, with data; within a declaration, also its earlier
+  -- names
   pub state : State
   -- the names that the statements before declare, in order
   pub declared : List ℕ

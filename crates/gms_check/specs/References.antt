@@ -105,8 +105,8 @@ mutual
 -- ---- in a statement
 
 module _ {F : Type 0} where
-  -- A reference or `ord` occurs in an act, around which the sets `loops` are controlled by loops.
-  -- The sets `within` are controlled where it occurs.
+  -- The reference or `ord` `what` occurs in an act, inside loops that control the sets `loops`.
+  -- Where it occurs the sets `within` are controlled.
   pub data InAct (within : List ℕ) (what : Asking F) (loops : List ℕ) (act : Act F) : Type 0 where
     -- in the amount of a lag on the left of an assignment, in its condition, and in its right side:
     -- there the sets on the left are controlled too
@@ -146,9 +146,9 @@ module _ {F : Type 0} where
     pub holds : Inner (loops ++ sets_of_control (control_tree control)) next
 
   -- a reference or `ord` occurs in the statement itself if `depth` is 0, otherwise in the body of
-  -- the innermost of exactly `depth` nested loops, of which the statement is the outermost. The
-  -- sets `loops` are controlled around the statement, and the sets `within` where the reference or
-  -- `ord` occurs
+  -- the innermost of exactly `depth` nested loops, the outermost being the statement. The sets
+  -- `loops` are controlled around the statement, and the sets `within` where the reference or `ord`
+  -- occurs
   abbrev pub InStatement : ℕ → List ℕ → Asking F → List ℕ → Stmt F → Type 0
   InStatement zero within what loops statement = InAct within what loops statement.act
   InStatement (suc depth) within what loops statement = IsInLoop (InStatement depth within what) loops statement

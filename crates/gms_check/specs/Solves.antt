@@ -31,7 +31,7 @@ module _ {F : Type 0} where
   defined_twice known (defining name indices) = known.defined name
   defined_twice known used = false
 
-  -- Objective: the variable that is minimized or maximized is not free, or has positions
+  -- Objective: the variable that is minimized or maximized is not free, or is indexed
   abbrev pub objective : Known F → Use F → Bool
   objective known (optimizing name) =
       not (is_free (symbol_at known.state name).content && is_without_positions (positions known.state name))

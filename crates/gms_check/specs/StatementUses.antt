@@ -88,8 +88,8 @@ module _ {F : Type 0} where
   act_uses_step (Act-F.Abort condition items) state at controlled =
       condition_uses at controlled (option_map tree_of condition) ++ flat_map show_uses items
 
-  -- the uses of a statement, in which the act is replaced by the function that gives its uses:
-  -- these, at the statement's place
+  -- the uses of a statement: the uses of its act at the statement's place. In the argument the act
+  -- is replaced by the function that gives its uses
   abbrev pub statement_uses_step : Stmt-F F (UsesOfAct F) (UsesOfStatement F) → UsesOfStatement F
   statement_uses_step statement state controlled = statement.act state statement.at controlled
 

@@ -119,8 +119,9 @@ module _ {F : Type 0} where
   later_steps context around earlier (part mark tree rest) =
       (place_by_mark mark around, stepping context (operation_of mark) earlier tree) ∷ later_steps context around (earlier ++ tree ∷ []) rest
 
-  -- the operations of a product or a power in a context: one before each operand except the first,
-  -- where `around` is the place of an operand whose mark has none
+  -- the operations of a product or a power in a context: one for each operand except the first,
+  -- with the operands before it and this operand; it is at the place of the sign before the
+  -- operand, which the operand's mark has, or at `around` if the mark has no place
   abbrev pub steps : Context → Place → Parts F → Uses F
   steps context around no_part = []
   steps context around (part mark tree rest) = later_steps context around (tree ∷ []) rest

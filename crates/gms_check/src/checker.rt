@@ -13,14 +13,14 @@ use gms_scope::Known;
 use gq_field::ExactField;
 use std::alloc::{AllocError, Global};
 
-/// The compile errors of a program, if the names of the solvers are `solvers`: at most one of each
-/// statement, in the order of the statements. The only error of the function is out of memory.
+/// The compile errors of a program, at most one of each statement, in the order of the statements.
+/// `solvers` has the names that `option lp` admits. The only error returned is out of memory.
 ///
-/// The error of a statement is the first by its place in the source, and at one place the one with
-/// the least number. A loop with its body is one statement. A name is declared by the first
-/// statement that declares it, with an error or without; a statement with an error gives its names
-/// no data. The program is accepted if and only if there is no error. GAMS User's Guide, "Set
-/// Definition", "Data Manipulation", "Equations", "Model and Solve Statements".
+/// Of several errors of a statement the first by place in the source is listed, and at one place
+/// that with the least error number. A loop with its body is one statement. A statement with an
+/// error declares its names, but gives them no data. The program is accepted exactly if no error is
+/// listed. GAMS User's Guide, "Set Definition", "Data Manipulation", "Equations", "Model and Solve
+/// Statements".
 pub fn check<F: ExactField>(
     alloc: Global,
     program: &Program<F>,
@@ -45,8 +45,10 @@ pub fn names_of(alloc: Global, solvers: &[String]) -> Result<Vec<Sequence<u8>>, 
     Ok(names)
 }
 
-/// For each statement of a program, in order, the statement's compile error, or `None` if the
-/// statement has none. `solvers` has the names of the solvers. The errors are those of `check`.
+/// The compile error of each statement of a program, in order; `None` if a statement has none. Of
+/// several errors of a statement this is the first by place, and at one place the one with the
+/// least number. `solvers` has the names of the solvers. The only error of the function is out of
+/// memory.
 pub fn statement_errors<F: ExactField>(
     alloc: Global,
     program: &Program<F>,
@@ -101,8 +103,7 @@ fn put_last(errors: &mut Vec<CompileError>, error: Option<CompileError>) -> Resu
 }
 
 /// A check in progress, at one statement of a program: what is known from the statements before,
-/// the sets that are controlled at the current expression, and the first error of this statement so
-/// far.
+/// the sets that are controlled at the current expression, and this statement's first error so far.
 #[derive(Drop)]
 pub struct Checker<'s, F: ExactField> {
     /// The allocator of all that the check stores.
@@ -114,12 +115,14 @@ pub struct Checker<'s, F: ExactField> {
     /// The sets that folds (`sum` and others), loops and left sides control at the current
     /// expression.
     pub controlled: Controlled,
-    /// The first error so far of the statement in check; `None` if it has none so far.
+    /// Of the errors found so far in the statement that is being checked, the first by place, and
+    /// at one place the one with the least number; `None` if no error was found.
     pub first: Option<CompileError>,
 }
 
 impl<'s, F: ExactField> Checker<'s, F> {
-    /// A check before the first statement of a program. `solvers` has the names of the solvers.
+    /// The checker of a program before it has checked the first statement. `solvers` has the names
+    /// of the solvers: the words that `option lp` admits. The error is out of memory.
     pub fn new(
         alloc: Global,
         program: &Program<F>,
@@ -138,8 +141,8 @@ impl<'s, F: ExactField> Checker<'s, F> {
         })
     }
 
-    /// Takes note of an error of the statement, of this kind and at this place: the new error
-    /// becomes the statement's first error, unless the first error so far comes before it.
+    /// Updates `first`, the statement's first error by place and then by error number, with the
+    /// error of this kind at this place.
     pub fn report(&mut self, kind: ErrorKind, at: Place)
         ensures { seen self.new ≡ record (seen self.old) { first = sooner (seen self.old).first (Some (record { kind = kind; at = at })) } }
     {
@@ -166,8 +169,8 @@ impl<'s, F: ExactField> Checker<'s, F> {
         first
     }
 
-    /// The error `before` becomes the statement's first error, unless the first error so far comes
-    /// before that one. If `before` is `None`, nothing changes.
+    /// Replaces `first`, the statement's first error so far, by the error `before`, unless `first`
+    /// comes before it, by place, then error number. If `before` is `None`, nothing changes.
     pub fn merge(&mut self, before: Option<CompileError>)
         ensures { seen self.new ≡ record (seen self.old) { first = sooner before (seen self.old).first } }
     {

@@ -9,8 +9,8 @@ use gms_store::SymbolKind;
 /// there.
 #[derive(Clone, Copy, Debug, PartialEq, Eq)]
 pub struct Context {
-    /// Whether operands that have a number may occur: literals, parameters, attributes, functions,
-    /// `ord`, `card`, `sum` and the other folds, relations, `and`, `or` and `xor`.
+    /// Whether numbers may occur: literals, parameters, attributes, functions, `ord`, `card`, `sum`
+    /// and the other folds, divisions, powers, relations, `and`, `or` and `xor`.
     pub numbers: bool,
     /// Whether a variable without suffix may occur.
     pub variables: bool,

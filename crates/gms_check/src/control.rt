@@ -23,10 +23,10 @@ impl<'s, F: ExactField> Checker<'s, F> {
         self.require(known, ErrorKind::UnknownName, at);
     }
 
-    /// Checks the sets of a fold, such as `sum`, or a loop at the place `at`, and notes the first
-    /// error there: each must be a one-dimensional set, there must be at most 10, and none may be
-    /// controlled already or occur twice. From then on they are controlled, also after an error.
-    /// The only error that is returned is out of memory.
+    /// Checks the sets of a fold, such as `sum`, or a loop. Each must be a declared one-dimensional
+    /// set, there must be at most 10, and none may be controlled already or occur twice. Updates
+    /// `first`, the statement's first error by place, then error number; here the place is `at`.
+    /// The sets are then controlled, even wrong ones. The error returned is out of memory.
     pub fn control_sets(&mut self, sets: &[u32], at: Place) -> Result<(), AllocError>
         ensures { OnOk result
             (seen self.new ≡ with_controlled (noted F.value (seen self.old) ((at, controlling (seen self.old).controlled sets.now) ∷ [])) sets.now) }
@@ -54,8 +54,9 @@ impl<'s, F: ExactField> Checker<'s, F> {
         Ok(twice)
     }
 
-    /// Checks `ord` of a set, at the place `at`: the context admits a number, and the set is
-    /// declared before, controlled and ordered. The result is `false`: `ord` has no variable.
+    /// Checks `ord` of `set`, at the place `at`: the context must admit a number, and `set` must be
+    /// a declared, controlled, ordered set. Updates `first`, the statement's first error by place,
+    /// then by number. The result is `false`: no variable.
     pub fn ordinal(&mut self, context: Context, at: Place, set: u32) -> bool
         ensures noted { seen self.new ≡ noted F.value (seen self.old) ((at, ordinal context (seen self.old).controlled set) ∷ []) }
         ensures variable { result ≡ false }
@@ -68,8 +69,9 @@ impl<'s, F: ExactField> Checker<'s, F> {
         variable
     }
 
-    /// Checks `card` of a set, at the place `at`: the context admits a number, and the name is that
-    /// of a set that is declared before. The result is `false`: `card` has no variable.
+    /// Checks `card` of `set`, at the place `at`: the context must admit a number, and `set` must
+    /// be a set declared before. Updates `first`, the statement's first error by place, then error
+    /// number. The result is `false`: no variable.
     pub fn cardinal(&mut self, context: Context, at: Place, set: u32) -> bool
         ensures noted { seen self.new ≡ noted F.value (seen self.old) ((at, cardinal context set) ∷ []) }
         ensures variable { result ≡ false }

@@ -5,9 +5,8 @@ ghost use Rattle.gms_check.specs.Past.{is_among};
 use std::alloc::{AllocError, Global};
 use std::marker::Model;
 
-/// The controlled sets, in the order in which they were added, with repetitions. The index of the
-/// first occurrence of each set is stored, so a query takes the same time however many sets there
-/// are.
+/// The sets that folds, loops and left sides control, in the order of addition, with repetitions.
+/// The index of each one's first occurrence is stored, so a set is looked up in constant time.
 #[derive(Drop)]
 pub struct Controlled {
     sets: Vec<u32>,

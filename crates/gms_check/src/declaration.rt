@@ -28,10 +28,10 @@ use gq_field::ExactField;
 use std::alloc::AllocError;
 
 impl<'s, F: ExactField> Checker<'s, F> {
-    /// Checks a declaration of these items, all of this kind, and declares their names. It checks
-    /// that the kind is none of discrete variables, with the error at the place `at`, and then each
-    /// name in order, with its domain and its data. If the statement has no error, the names get
-    /// their data.
+    /// Checks a declaration of `items`, all of one kind: in order, each item's name, domain and
+    /// data. Updates `first`, the statement's first error by place and then by error number.
+    /// Discrete variables are an error at the place `at`. The names are declared even if there is
+    /// an error, but get their data only if `first` is `None`. The error is out of memory.
     pub fn declaration(
         &mut self,
         at: Place,

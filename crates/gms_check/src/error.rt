@@ -146,15 +146,15 @@ impl ErrorKind {
     }
 }
 
-/// A compile error and its place in the source: that of the smallest piece of the statement around
-/// the error that has a place.
+/// A compile error and its place in the source. If the erroneous part of the statement has no
+/// place, the error has the place of the smallest part around it that has one.
 #[derive(Clone, Copy, Debug, Error)]
 #[error("{at}: {code} {name}: {kind}", code = .kind.code(), name = .kind.name())]
 pub struct CompileError {
     /// The kind of the error.
     pub kind: ErrorKind,
-    /// The place of the error in the source: that of the smallest piece of the statement around the
-    /// error that has a place.
+    /// The place of the error in the source. If the erroneous part of the statement has no place,
+    /// this is the place of the smallest part around it that has one.
     pub at: Place,
 }
 
@@ -168,8 +168,8 @@ impl CompileError {
         place < others
     }
 
-    /// The earlier of two errors: `other` if it is an error that comes before this one by its
-    /// place, or at one place by its number; else this error.
+    /// Of this error and `other`, the one with the earlier place, or if both have the same place,
+    /// the one with the lower number. This error if `other` is `None`.
     pub fn or_earlier(self, other: Option<CompileError>) -> CompileError
         ensures { result ≡ earlier self other }
     {

@@ -30,9 +30,10 @@ pub enum Operation {
 }
 
 impl<'s, F: ExactField> Checker<'s, F> {
-    /// Checks an expression in a context. `around` is the place of the smallest piece of the source
-    /// around the expression that has a place. The result is whether the expression has a variable
-    /// without suffix outside conditions, relations, operands of logic and amounts of lags.
+    /// Checks `e` in a context; updates `first`, the statement's first error by place, then by
+    /// error number. An error is at the smallest part around it with a place, else at `around`.
+    /// Returns whether `e` has a variable without suffix outside conditions, relations, operands of
+    /// logic and amounts of lags.
     #[cycle(expression)]
     pub fn expression(
         &mut self,
@@ -196,9 +197,10 @@ impl<'s, F: ExactField> Checker<'s, F> {
         Ok(variable)
     }
 
-    /// Checks the sets of a fold, such as `sum`, or a loop at the place `at`, as `control_sets`
-    /// does, and the condition on them, if any. The sets are controlled in the condition, and stay
-    /// controlled.
+    /// Checks the sets of a fold or loop (declared, one-dimensional, at most 10, none twice) and
+    /// the condition, if any. `at` is the place of the sets. Updates `first`, the statement's first
+    /// error by place, then number. The sets, even if wrong, are controlled in the condition and
+    /// after it. The error is out of memory.
     #[cycle(expression)]
     pub fn control(&mut self, control: &Control<F>, at: Place) -> Result<(), AllocError>
         ensures { OnOk result (seen self.new

@@ -17,8 +17,8 @@ use gms_scope::Known;
 use gq_field::ExactField;
 use std::alloc::{AllocError, Global};
 
-/// The most sets that a fold, such as `sum`, or a loop may control, and the most indices that a
-/// reference may have.
+/// The most sets in the control of one fold, such as `sum`, or of one loop, and the most indices of
+/// one reference.
 pub const MOST: usize = 10;
 
 /// Whether a number of indices, `count`, is other than `expected` or over 10.
@@ -108,11 +108,11 @@ pub fn has_uncontrolled(controlled: &Controlled, sets: &[u32]) -> bool
     false
 }
 
-/// Whether at least one set among the indices of a reference to `name` does not fit its position. A
-/// set fits where the domain of `name` has `*`. It also fits where the domain has a one-dimensional
-/// set that is declared before `name`, if it is that set or is declared as a subset of that set,
-/// directly or through other sets. An alias counts as its set. Indices after the last position of
-/// `name` are not checked.
+/// Whether at least one set S among the indices of a reference to `name` does not fit its position.
+/// S fits where the domain of `name` has `*`. S also fits where the domain has a one-dimensional
+/// set D that is declared before `name`, if S is D or is declared as a subset of D, directly or
+/// through other sets. An alias counts as its set. Indices after the last position of `name` are
+/// not checked.
 pub fn has_unfit_set<F: ExactField>(known: &Known<F>, name: u32, indices: &[Index<F>]) -> bool
     ensures { result ≡ have_unfit_set known.now.state (names known.now) (above_of known.now.declared) name
         (positions known.now.state name) (index_list indices.now) }
@@ -128,10 +128,11 @@ pub fn has_unfit_set<F: ExactField>(known: &Known<F>, name: u32, indices: &[Inde
     false
 }
 
-/// Whether at least one label among the indices of a reference to `name` does not fit its position.
-/// A label fits where the domain of `name` has `*`. It also fits where the domain has a
-/// one-dimensional set that is declared before `name`, if that set has the label. Indices after the
-/// last position of `name` are not checked. The error is out of memory.
+/// Whether at least one label L among the indices of a reference to `name` does not fit its
+/// position. L fits where the domain of `name` has `*`. L also fits where the domain has a
+/// one-dimensional set D with the member L, if D is declared before `name` or, if `name` is an
+/// alias, before the set of this alias. Indices after the last position of `name` are not checked.
+/// The error is out of memory.
 pub fn has_unfit_label<F: ExactField>(
     alloc: Global,
     known: &Known<F>,

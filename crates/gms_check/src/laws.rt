@@ -26,29 +26,30 @@ ghost use Rattle.gms_check.specs.StatementUses.{index_list};
 
 use gq_field::ExactField;
 
-/// What holds of each program without compile errors. Each reference in it names what a statement
-/// before declares, in a context that admits it, with as many indices as its name has positions.
-/// Each index set is one-dimensional, below the set of its position, and controlled; each label is
-/// a member of the set of its position; and a set with a lag is ordered. A set is below itself, and
-/// below each set of which it is declared as a subset, directly or through other sets. Sets that
-/// are controlled are one-dimensional, and controlled once; the set of an `ord` is one-dimensional,
-/// controlled and ordered.
+/// In a program without compile errors, a reference names what an earlier statement declares, in a
+/// context that admits the name with its suffix. It has as many indices as the name has positions,
+/// at most 10. Each set among them, and that of an `ord`, is one-dimensional and controlled; in
+/// `ord` or with a lag it is ordered. At a position with a domain set, a set is this set or below
+/// it by domain sets, and a label is its member. A left side is alike, but its sets need not be
+/// controlled. A `card` is of a set. A fold or loop controls at most 10 sets, one-dimensional, none
+/// controlled already. No other part has an error.
 pub fn checked_laws<F: ExactField>()
     ensures checked { (program : Program F) (solvers : List (List ℕ)) → compile_errors F.value program solvers ≡ [] → IsChecked F.value program solvers }
 {}
 
-/// What holds of each reference of a program without compile errors, wherever it occurs in a
-/// statement: in an expression, under any folds and conditions, in the amount of a lag, in an
-/// assignment, a definition, an abort or the condition of a loop, within `depth` nested loops.
+/// What holds of each reference and each `ord` in a program without compile errors: in an
+/// assignment, also in a lag on its left, in a definition, or in the condition of an assignment, a
+/// definition, an abort or a loop, within `depth` nested loops.
 ///
 /// The name of the reference is declared by a statement before, and some context admits the name
 /// with its suffix (`checked_laws` states that the context of the reference does). The reference
 /// has as many indices as its name has positions, at most 10. Each set among the indices has one
-/// dimension and is below the set of its position: it is that set, or is declared as a subset of
-/// that set, directly or through other sets. Each label is a member of the set of its position, and
-/// a set with a lag is ordered. Each set is one of those that are controlled at the reference: by
-/// the loops around the statement, by the left side, and by the folds around the reference. The set
-/// of an `ord` is one of these too; it has one dimension and is ordered.
+/// dimension, and a set with a lag is ordered. At a position that a domain set restricts, a set
+/// among the indices is this domain set, or is declared as a subset of it, directly or through
+/// other sets, and a label is a member of the domain set. A position with `*` admits every set of
+/// one dimension and every label. Each set among the indices is controlled at the reference: by the
+/// loops around the statement, by the left side, or by the folds around the reference. The set of
+/// an `ord` is so controlled too, has one dimension and is ordered.
 ///
 /// GAMS User's Guide, "Data Manipulations with Parameters", "Sets as Sequences: Ordered Sets",
 /// "Programming Flow Control Features".
@@ -58,9 +59,9 @@ pub fn reference_laws<F: ExactField>()
         IsMeant (known_after F.value program solvers (sound before)) within what }
 {}
 
-/// The left side of an assignment in a program without compile errors, also of one in the body of a
-/// loop: each set among its indices has one dimension, and each amount of a lag is a number or a
-/// name without suffix and indices, so it is the same at all elements.
+/// Take an assignment in a program without compile errors, at the top level or in nested loops.
+/// Each set among the indices of its left side has one dimension. The amount of each lag there is a
+/// number, or a name without suffix and indices.
 pub fn left_laws<F: ExactField>()
     ensures { (program : Program F) (solvers : List (List ℕ)) (before : List (Stmt F)) (outer inner : Stmt F) (depth : ℕ)
         (target : Target F) (condition : Option (Expr F)) (right_at : Place) (right : Expr F) →
@@ -69,13 +70,13 @@ pub fn left_laws<F: ExactField>()
         AreTargetIndices (known_after F.value program solvers (sound before)).state (index_list target.indices) }
 {}
 
-/// The state of an accepted program before its first statement acts. A set has the tuples of its
-/// items and no other. A parameter has at each tuple the value of the item that has the tuple, and
-/// 0 if no item has the tuple. A variable has the bounds of its type, which is free only if each of
-/// its declarations is of free variables. An equation has no bounds. A variable and an equation
-/// have level and marginal 0. A set, a parameter and an equation have the positions of their
-/// declaration. A name that no statement declares has neither positions nor content. In all clauses
-/// except the last, the name is in the program's table of names.
+/// The state of an accepted program, one without compile errors, before its first statement acts. A
+/// set has the tuples of its data items and no other. A parameter has at a tuple the value of the
+/// first item with the tuple, or 0 without one. A variable has the bounds of its type, which is
+/// free only if each of its declarations is of free variables. Equations have no bounds. Variables
+/// and equations have level and marginal 0. Sets, parameters and equations have the index positions
+/// of their declaration. A name that no statement declares has neither positions nor content.
+/// Except in the last clause, the name is in the program's table of names.
 ///
 /// GAMS User's Guide, "Set Definition"; "Data Entry: Parameters, Scalars and Tables"; "Variables".
 pub fn load_laws<F: ExactField>()

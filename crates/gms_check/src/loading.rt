@@ -14,11 +14,11 @@ use gms_store::Store;
 use gq_field::ExactField;
 use std::alloc::{AllocError, Global};
 
-/// The state in which an accepted program begins: the names that it declares, with all their data,
-/// the entries of tables among them, and no other data. The error is out of memory.
+/// The state in which a run of an accepted program begins: the names that the program declares,
+/// with all data of its declarations and no other data. The error is out of memory.
 ///
-/// The program is accepted if it has no compile error for some names of solvers. GAMS User's Guide,
-/// "Data Entry: Parameters, Scalars and Tables".
+/// The program must be accepted: it has no compile error for some list of names of solvers. GAMS
+/// User's Guide, "Data Entry: Parameters, Scalars and Tables".
 pub fn load<F: ExactField>(alloc: Global, program: &Program<F>) -> Result<Store<F>, AllocError>
     requires { IsAccepted F.value program.now }
     ensures { IfOk result (λ store. store ≡ loaded F.value program.now) }

@@ -78,8 +78,8 @@ impl OptionWord {
 }
 
 impl<'s, F: ExactField> Checker<'s, F> {
-    /// Checks the options of a statement: that each word is an option, and that the option admits
-    /// the value.
+    /// Checks the options of a statement, and notes the first error: each word must be an option,
+    /// and the option must admit its value.
     pub fn options(&mut self, settings: &[(Word, Setting<F>)])
         ensures { seen self.new ≡ noted F.value (seen self.old) (flat_map option_uses settings.now) }
     {

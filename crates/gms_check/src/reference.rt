@@ -20,10 +20,12 @@ use gq_field::ExactField;
 use std::alloc::AllocError;
 
 impl<'s, F: ExactField> Checker<'s, F> {
-    /// Checks a reference, except for the amounts of its lags: its name and indices as `named`
-    /// does, that each set among the indices is controlled, and that the context admits the name
-    /// with this suffix. The errors are noted at the place of the name. The result is whether the
-    /// reference is to a variable without suffix.
+    /// Checks a reference, except for the amounts of its lags. Updates `first`, the statement's
+    /// first error by place, then error number. Errors are a name or a set as index that is not
+    /// declared before; a name that the context does not admit with this suffix; over 10 indices,
+    /// or not as many as the name's positions; an index unfit for its position's domain; a set as
+    /// index that is not one-dimensional, not controlled or, with a lag, not ordered. Returns
+    /// whether it is a variable without suffix. The error is out of memory.
     pub fn reference(
         &mut self,
         context: Context,
@@ -56,11 +58,12 @@ impl<'s, F: ExactField> Checker<'s, F> {
         }
     }
 
-    /// Checks a name and its indices. The name and the sets among the indices are declared before.
-    /// There are as many indices as the name has positions, at most 10. Each set among the indices
-    /// is one-dimensional, and ordered if it has a lag. Each set or label fits its position
-    /// (`has_unfit_set`, `has_unfit_label`). `occurs` is whether the context admits the name; if
-    /// not, this is an error too.
+    /// Checks a name and its indices. Updates `first`, the statement's first error by place and
+    /// then by error number. Errors, at the place of the name, are a name or a set as index that is
+    /// not declared before; `occurs` (whether the context admits the name) if it is false; over 10
+    /// indices, or not as many as the name's positions; an index unfit for its position's domain; a
+    /// set as index that is not one-dimensional or, with a lag, not ordered. The only error
+    /// returned is out of memory.
     pub fn named(
         &mut self,
         named: Named,
@@ -87,8 +90,9 @@ impl<'s, F: ExactField> Checker<'s, F> {
         Ok(())
     }
 
-    /// Checks the items that a `display` or an `abort` shows: each symbol is declared before, and
-    /// may occur in a condition with its suffix. A text has no error.
+    /// Checks the items that a `display` or an `abort` shows: each symbol must be declared before
+    /// and, with its suffix, allowed in a condition. Updates `first`, the statement's first error
+    /// by place, then number. A text has no error.
     pub fn shows(&mut self, items: &[Show])
         ensures { seen self.new ≡ noted F.value (seen self.old) (flat_map show_uses items.now) }
     {

@@ -18,8 +18,8 @@ use gq_field::ExactField;
 use std::alloc::AllocError;
 
 impl<'s, F: ExactField> Checker<'s, F> {
-    /// Checks the two names of an alias: exactly one is to be declared before, and that one has to
-    /// be a set or an alias of one.
+    /// Checks the two names of an alias, and notes the first error: exactly one must be declared
+    /// before, and that one must be a set or an alias of one.
     pub fn alias(&mut self, first: Named, second: Named)
         ensures { seen self.new
             ≡ noted F.value (seen self.old) ((first.at, first_alias first.name second.name) ∷ (second.at, second_alias first.name second.name) ∷ []) }
@@ -34,9 +34,11 @@ impl<'s, F: ExactField> Checker<'s, F> {
         self.require(second_occurs, ErrorKind::WrongKind, second.at);
     }
 
-    /// Checks a declaration of models, and declares their names: each is not declared before, and
-    /// each name in its list is that of an equation. If the statement has no error, the models get
-    /// their equations; else they get none.
+    /// Checks a declaration of models: no model's name may be declared before, and each name in a
+    /// model's list must be that of an equation. Updates `first`, the statement's first error by
+    /// place and then by error number. The names are declared even if there is an error, but the
+    /// models get their equations only if `first` is `None`. The only error that is returned is out
+    /// of memory.
     pub fn models(&mut self, models: &[ModelDecl]) -> Result<(), AllocError>
         ensures first { OnOk result ((seen self.new).first ≡
             sooner (seen self.old).first (first_error (model_errors (known_of F.value (seen self.old)) models.now))) }
@@ -104,9 +106,9 @@ impl<'s, F: ExactField> Checker<'s, F> {
         self.known.list(name, equations)
     }
 
-    /// Checks a solve, and notes the first error: its model must be a model whose equations are all
-    /// defined, `method`, the word after `using`, must be `lp`, and its objective must be a free
-    /// variable without indices.
+    /// Checks a solve: `model` must be a model with all equations defined before, `method`, the
+    /// word after `using`, must be `lp`, and `objective` must be a free variable without index.
+    /// Updates `first`, the statement's first error by place, then number.
     pub fn solve(&mut self, model: Named, method: &Word, objective: Named)
         ensures { seen self.new
             ≡ noted F.value (seen self.old)

@@ -19,10 +19,10 @@ use gq_field::ExactField;
 use std::alloc::AllocError;
 
 impl<'s, F: ExactField> Checker<'s, F> {
-    /// Checks a statement, and declares its names. The caller must prove that no error is noted
-    /// before. The result is the statement's first compile error, by place and then by number. If
-    /// this is `None`, the names that the statement declares have their data too. Afterwards no set
-    /// is controlled and no error is noted.
+    /// Checks a statement. The result is its first compile error, by place and then by error
+    /// number. The names that it declares become known, with their data if the result is `None`.
+    /// The caller must prove that `first`, the first error noted, is `None`; afterwards `first` is
+    /// `None` again, and no set is controlled.
     pub fn statement(&mut self, statement: &Stmt<F>) -> Result<Option<CompileError>, AllocError>
         requires { (seen self.old).first ≡ None }
         ensures error { IfOk result (λ error. error ≡ statement_error (known_of F.value (seen self.old)) statement.now) }

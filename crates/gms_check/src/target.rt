@@ -22,10 +22,12 @@ use gq_field::ExactField;
 use std::alloc::AllocError;
 
 impl<'s, F: ExactField> Checker<'s, F> {
-    /// Checks what an assignment assigns, except for the amounts of lags, and notes the first
-    /// error: the name must be that of a set or a parameter without suffix, or of a variable with
-    /// the suffix `lo`, `up`, `fx`, `l` or `m`, and its indices must fit its positions, in number
-    /// and each in its domain (`named`).
+    /// Checks the target of an assignment, except for the amounts of lags. Updates `first`, the
+    /// statement's first error by place and then by error number. Errors are a name that is not
+    /// declared before as a set or a parameter, without suffix, or a variable, with suffix `lo`,
+    /// `up`, `fx`, `l` or `m`; over 10 indices, or not as many as the name's positions; an index
+    /// unfit for its position's domain; a set as index that is not declared before, not
+    /// one-dimensional or, with a lag, not ordered. The returned error is out of memory.
     pub fn target(&mut self, target: &Target<F>) -> Result<(), AllocError>
         ensures { OnOk result (seen self.new
             ≡ noted F.value (seen self.old) ((target.now.at, assigning target.now.name target.now.suffix (index_list target.now.indices)) ∷ [])) }
@@ -40,9 +42,12 @@ impl<'s, F: ExactField> Checker<'s, F> {
         Ok(())
     }
 
-    /// Checks what a definition defines, and notes the first error: the name must be that of an
-    /// equation that no statement before defines, and its indices must fit its positions, in number
-    /// and each in its domain (`named`).
+    /// Checks the left side of a definition, except for the amounts of lags. Updates `first`, the
+    /// statement's first error by place and then by error number. Errors are a name that is no
+    /// equation's, or that an earlier statement defines; over 10 indices, or not as many as the
+    /// name's positions; an index unfit for its position's domain; a set as index that is not
+    /// declared before, not one-dimensional or, with a lag, not ordered. The error returned is out
+    /// of memory.
     pub fn defined_equation(
         &mut self,
         equation: Named,
@@ -136,9 +141,10 @@ impl<'s, F: ExactField> Checker<'s, F> {
         }
     }
 
-    /// Checks each name, operator and other part of the condition of a statement, and notes the
-    /// first error: each must be allowed where it occurs. `at`, the place of the statement, counts
-    /// as the place of an outermost part that has none. `None` is no condition and has no error.
+    /// Checks the condition of a statement, if any: each name, operator and other part must be
+    /// allowed where it occurs. Updates `first`, the statement's first error by place and then by
+    /// error number. `at`, the place of the statement, is the place of an error that is in no part
+    /// with a place. The only error that is returned is out of memory.
     pub fn condition(&mut self, condition: &Option<Expr<F>>, at: Place) -> Result<(), AllocError>
         ensures { OnOk result (seen self.new
             ≡ noted F.value (seen self.old) (condition_uses at (seen self.old).controlled (option_map tree_of condition.now))) }

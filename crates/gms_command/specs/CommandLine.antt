@@ -35,8 +35,8 @@ abbrev pub with_source : App
 with_source =
     with_rule (with_rule (with_rule (on_top (λ s. record s { no_binary_name = true }) (new_app (codes "gams25"))) (new_rule (codes "file"))) (option (codes "generate"))) (option (codes "restart"))
 
--- the command without its flag: its source by FILE, `--generate` and `--restart`, and also `--out`
--- and `--save`, which have one value each
+-- the command without the flag `--ranges`: its source by FILE, `--generate` and `--restart`, and
+-- also `--out` and `--save`, which have one value each
 abbrev pub with_values : App
 with_values = with_rule (with_rule with_source (option (codes "out"))) (option (codes "save"))
 
@@ -45,8 +45,8 @@ with_values = with_rule (with_rule with_source (option (codes "out"))) (option (
 abbrev pub gams25 : App
 gams25 = with_rule with_values (flag (codes "ranges"))
 
--- the rows of names and values that the command finds in the arguments; None if it does not accept
--- them
+-- the rows that the command finds in the arguments, each with a name (of an option, the flag or
+-- FILE) and its values; None if the command does not accept the arguments
 abbrev pub rows_taken : List (List ℕ) → Option (List Row)
 rows_taken words = if takes gams25 words then Some (matches_of gams25 words) else None
 
@@ -73,30 +73,30 @@ origin_of (Some file) None (Some saved) = Some (restarted saved file)
 origin_of None (Some text) None = option_map generated (size_of text)
 origin_of _ _ _ = None
 
--- the name of the output for a file: FILE with a last `.gms` replaced by `.lst`, or else with
--- `.lst` added
+-- the name of the output file for a program that is read from FILE: FILE with a `.gms` at its end
+-- replaced by `.lst`, or, without one, with `.lst` appended
 abbrev pub output_name : List ℕ → List ℕ
 output_name file =
     if bytes_eq (drop (length file - 4) file) (codes ".gms") then take (length file - 4) file ++ codes ".lst" else file ++ codes ".lst"
 
--- the name of the output if `--out` is not given: for a file the one that results from the name of
--- the file (`output_name`), for a generated model `generate.lst`
+-- the name of the output file if `--out` is not given: for FILE, also in a restarted run, the one
+-- that results from its name (`output_name`), for a generated model `generate.lst`
 abbrev pub own_output : Origin → List ℕ
 own_output (in_file file) = output_name file
 own_output (restarted saved file) = output_name file
 own_output (generated size) = codes "generate.lst"
 
--- What accepted arguments request: a source, the name of the output, the name of the file in which
--- the last state is saved, if any, and whether sensitivity ranges of the solves are printed
--- (`ranges`).
+-- What accepted arguments request: a source, the name of the output file, in which the listing is
+-- written, the name of the file in which the last state is saved, if any, and whether sensitivity
+-- ranges of the solves are printed (`ranges`).
 pub record Asked : Type 0 where
   pub source : Origin
   pub output : List ℕ
   pub save : Option (List ℕ)
   pub ranges : Bool
 
--- the request with this source, this flag `ranges` and this name of a file to save in; the output
--- has the name `out` that `--out` gives it, or else the one that results from the source
+-- the request with this source, this flag `ranges` and this name of a file to save in, if any; the
+-- output file has the name `out` that `--out` gives, or else the name that results from the source
 abbrev pub asked : Bool → Option (List ℕ) → Option (List ℕ) → Origin → Asked
 asked ranges save out source =
     record { source = source; output = unwrap_or out (own_output source); save = save; ranges = ranges }
@@ -111,9 +111,9 @@ abbrev pub request_in : List Row → Option Asked
 request_in rows =
     option_map (asked (is_flag_given (first_of (codes "ranges") rows)) (first_of (codes "save") rows) (first_of (codes "out") rows)) (origin_of (first_of (codes "file") rows) (first_of (codes "generate") rows) (first_of (codes "restart") rows))
 
--- what the arguments request; None, that is, they are refused, if the command does not accept them,
--- they do not name exactly one source, the value of `--generate` is no size, or both `--generate`
--- and `--restart` are given
+-- what the arguments request; None, that is, they are refused, if they do not fit the options, the
+-- flag and the one FILE of the command (`rows_taken`), do not name exactly one source, give
+-- `--generate` a value that is no size from 1 to 30, or give both `--generate` and `--restart`
 abbrev pub request_of : List (List ℕ) → Option Asked
 request_of words = option_and_then request_in (rows_taken words)
 
@@ -126,8 +126,9 @@ origin (File name) = in_file name.now
 origin (Restart saved file) = restarted saved.now file.now
 origin (Generate size) = generated size
 
--- the view of a request: its source; the name of its output, which results from the source if
--- `--out` is not given; the file in which to save, if any; and whether ranges are printed
+-- the view of a request: its source; the name of its output file, which results from the source if
+-- `--out` is not given; the file in which to save, if any; and whether sensitivity ranges of the
+-- solves are printed
 abbrev pub asked_by : Request → Asked
 asked_by request =
     asked request.ranges (option_map (λ name. name.now) request.save) (option_map (λ name. name.now) request.out) (origin request.source)
@@ -142,8 +143,8 @@ usage_line = printed_line (codes "usage: gams25 [--ranges] [--save FILE] [--rest
 abbrev pub read_fault_line : List ℕ → List ℕ
 read_fault_line file = printed_line (codes "cannot read " ++ file)
 
--- the line that is printed for a generated model: its size, the status of the model, the
--- objective's level as a text, and the number of pivots
+-- the line that is printed for a generated model: its size, which is the number of plants and that
+-- of markets, the status of the model, the objective's level as a text, and the number of pivots
 abbrev pub generated_line : ℕ → ℕ → List ℕ → ℕ → List ℕ
 generated_line size model_status objective pivots =
     printed_line (codes "generated " ++ decimal size ++ codes " by " ++ decimal size ++ codes ", model status " ++ decimal model_status ++ codes ", objective " ++ objective ++ codes ", pivots " ++ decimal pivots)

@@ -33,13 +33,15 @@ option_name save_option = codes "save"
 option_name restart_option = codes "restart"
 option_name generate_option = codes "generate"
 
--- the name by which the command finds a part: `file`, that of the option, or `ranges`
+-- the name by which the command finds a part of its command line: `file` for a FILE, the name of
+-- the option, or `ranges` for the flag
 abbrev pub part_name : Argument → List ℕ
 part_name (file_name file) = codes "file"
 part_name (option_with option value) = option_name option
 part_name ranges_flag = codes "ranges"
 
--- the value of a part: the name of the file, the value of the option, or `true`
+-- the value of a part of a command line: the name of the file, the value of the option, or `true`
+-- for the flag
 abbrev pub part_value : Argument → List ℕ
 part_value (file_name file) = file
 part_value (option_with option value) = value
@@ -51,7 +53,7 @@ words_of_argument (file_name file) = file ∷ []
 words_of_argument (option_with option value) = (codes "--" ++ option_name option) ∷ value ∷ []
 words_of_argument ranges_flag = codes "--ranges" ∷ []
 
--- all parts as they are written, in order
+-- the arguments of a command line that has these parts, in order
 abbrev pub all_words : List Argument → List (List ℕ)
 all_words [] = []
 all_words (part ∷ parts) = words_of_argument part ++ all_words parts
@@ -62,40 +64,45 @@ are_plain parts = list_all (λ part. is_no_option (part_value part)) parts
 
 -- ---- what they request
 
--- whether some part has this name
+-- whether one of these parts of the arguments (FILE, an option with its value, the flag) has this
+-- name (`part_name`)
 abbrev pub has_part : List ℕ → List Argument → Bool
 has_part name parts = list_any (λ part. bytes_eq (part_name part) name) parts
 
--- whether no two of the parts have the same name, and none has the name of a part in `before`
+-- whether no two of these parts of the arguments (FILE, an option with its value, the flag) have
+-- the same name (`part_name`), and none has the name of a part in `before`
 abbrev pub differ_from : List Argument → List Argument → Bool
 differ_from before [] = true
 differ_from before (part ∷ parts) = not (has_part (part_name part) before) && differ_from (before ++ part ∷ []) parts
 
--- whether no two parts have the same name
+-- whether no two of these parts of the arguments (FILE, an option with its value, the flag) have
+-- the same name (`part_name`)
 abbrev pub are_once : List Argument → Bool
 are_once parts = differ_from [] parts
 
--- the value of the first part with this name, if there is one
+-- the value of the first of these parts of a command line that has this name (`part_name`); None if
+-- no part has the name
 abbrev pub value_of_option : List ℕ → List Argument → Option (List ℕ)
 value_of_option name parts = option_map part_value (find (λ part. bytes_eq (part_name part) name) parts)
 
--- what the parts request: the source of FILE, `--restart` and `--generate`; the output of `--out`,
--- or else the one named after the source; the file of `--save`; and ranges, if `--ranges` is given.
--- None unless exactly one of FILE and `--generate` occurs, and `--generate` has a size from 1 to 30
--- and no `--restart` beside it.
+-- What the parts of a command line request: FILE, resumed from the save of `--restart` if that
+-- occurs, or the source of `--generate`; the output by `--out`, or else the one named after the
+-- source; the save's file by `--save`; ranges, if `--ranges` occurs. None unless exactly one of
+-- FILE and `--generate` occurs, the latter with a size from 1 to 30 and no `--restart`.
 abbrev pub requested : List Argument → Option Asked
 requested parts =
     option_map (asked (has_part (codes "ranges") parts) (value_of_option (codes "save") parts) (value_of_option (codes "out") parts)) (origin_of (value_of_option (codes "file") parts) (value_of_option (codes "generate") parts) (value_of_option (codes "restart") parts))
 
--- Arguments in which no file's name and no option's value begins with `-` request what their parts
--- request, in any order of the parts; they are refused if two parts have the same name.
+-- A command line has parts: a FILE, options with their values, and the flag `--ranges`. If no
+-- file's name and no option's value begins with `-`, its arguments request what the parts request,
+-- in any order of the parts, but are refused if two parts are files, the same option, or the flag.
 abbrev pub IsByParts : Type 0
 IsByParts = (parts : List Argument) → are_plain parts ≡ true → request_of (all_words parts) ≡ (if are_once parts then requested parts else None)
 
 -- ---- single forms
 
--- what a FILE alone requests: to run it, with the output named after it; nothing is saved, and no
--- ranges are printed
+-- what a FILE alone requests: to run it, with the output file named after it; nothing is saved, and
+-- no sensitivity ranges are printed
 abbrev pub request_of_file : List ℕ → Asked
 request_of_file file = record { source = in_file file; output = output_name file; save = None; ranges = false }
 
@@ -108,7 +115,8 @@ run_of_model size = record { source = generated size; output = codes "generate.l
 abbrev pub IsFile : Type 0
 IsFile = (file : List ℕ) → is_no_option file ≡ true → request_of (file ∷ []) ≡ Some (request_of_file file)
 
--- `--out NAME FILE` requests the run of FILE, with the output NAME; neither name begins with `-`
+-- `--out NAME FILE` requests the run of FILE, with the output file NAME; neither name begins with
+-- `-`
 abbrev pub IsOut : Type 0
 IsOut = (name file : List ℕ) → is_no_option name ≡ true → is_no_option file ≡ true → request_of (codes "--out" ∷ name ∷ file ∷ []) ≡ Some (record (request_of_file file) { output = name })
 
@@ -144,7 +152,7 @@ IsRefusedEmpty = request_of [] ≡ None
 abbrev pub IsRefusedBesideGenerate : Type 0
 IsRefusedBesideGenerate = (text other : List ℕ) → is_no_option text ≡ true → is_no_option other ≡ true → (request_of (codes "--generate" ∷ text ∷ other ∷ []) ≡ None) × (request_of (codes "--generate" ∷ text ∷ codes "--restart" ∷ other ∷ []) ≡ None)
 
--- two FILEs, or an option or flag given twice, are refused, with any parts before, between and
--- after them; no file's name and no option's value begins with `-`
+-- arguments with two FILEs, or with an option or the flag twice, are refused, whatever parts come
+-- before, between and after these two, if no file's name and no option's value begins with `-`
 abbrev pub IsRefusedTwice : Type 0
 IsRefusedTwice = (before between after : List Argument) (one other : Argument) → part_name one ≡ part_name other → are_plain (before ++ one ∷ (between ++ other ∷ after)) ≡ true → request_of (all_words (before ++ one ∷ (between ++ other ∷ after))) ≡ None

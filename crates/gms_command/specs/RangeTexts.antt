@@ -49,7 +49,7 @@ module _ (names labels : List (List ℕ)) where
   abbrev pub right_lines : List (Row Number) → List (Option Span) → List ℕ
   right_lines rows spans = flat_map (λ (p : ℕ × Row Number). right_line p.1 (span_at spans p.0)) (enumerate_from 0 rows)
 
-  -- the lines of the columns' costs, where `spans` has the range of each column
+  -- the lines of the columns' costs, where `spans` has the range of each column's cost
   abbrev pub cost_lines : List (Column Number) → List (Option Span) → List ℕ
   cost_lines columns spans = flat_map (λ (p : ℕ × Column Number). cost_line p.1 (span_at spans p.0)) (enumerate_from 0 columns)
 

@@ -40,19 +40,19 @@ pub struct Request<'a> {
     /// Where the source of the run comes from: a file, a file that resumes from a saved state, or a
     /// generated model.
     pub source: Source<'a>,
-    /// The value of `--out`, the name of the file to which the listing is written; `None` if the
-    /// arguments have no `--out`.
+    /// The value of `--out`, the name of the file of the listing; `None` without `--out`, when the
+    /// source determines it.
     pub out: Option<&'a str>,
-    /// The value of `--save`, the name of the file in which the last state of the run is saved;
-    /// `None` if the arguments have no `--save`.
+    /// The value of `--save`, the name of the file for the state at the end of the run; `None`
+    /// without `--save`, when none is saved.
     pub save: Option<&'a str>,
-    /// Whether the arguments have `--ranges`, which requests the ranges of the right sides and the
-    /// costs at each optimum.
+    /// Whether the arguments have `--ranges`, which requests the sensitivity ranges of right sides
+    /// and costs at optima.
     pub ranges: bool,
 }
 
-/// The command with the arguments for its source: an optional FILE, and `--generate` and
-/// `--restart` with one value each.
+/// The command with only the arguments that name its source, each optional: FILE, and `--generate`
+/// and `--restart` with a value.
 fn with_source<'a>(alloc: Global) -> Result<Command<'a>, AllocError>
     ensures { IfOk result (λ command. app_of command ≡ with_source) }
 {
@@ -63,7 +63,8 @@ fn with_source<'a>(alloc: Global) -> Result<Command<'a>, AllocError>
     bare.arg(file)?.arg(generate)?.arg(restart)
 }
 
-/// The command without its flag: also with `--out` and `--save`, which have one value each.
+/// The command without the flag `--ranges`: also with `--out` and `--save`, which have one value
+/// each.
 fn with_values<'a>(alloc: Global) -> Result<Command<'a>, AllocError>
     ensures { IfOk result (λ command. app_of command ≡ with_values) }
 {
@@ -186,10 +187,10 @@ fn request_of_file<'a>(words: &'a [String]) -> Option<Request<'a>>
     }
 }
 
-/// What the arguments `words` request. `None` means that the arguments are refused: the command
-/// does not accept them, they do not name exactly one source, the value of `--generate` is no
-/// number from 1 to 30 in decimal digits without a sign or a leading zero, or both `--generate` and
-/// `--restart` are given. The error is out of memory.
+/// What the arguments `words` request. `None` means that they are refused: the `clap` command
+/// rejects them; not exactly one of FILE and `--generate` is given; `--generate` has no number from
+/// 1 to 30 in decimal digits without a sign or a leading zero; or both `--generate` and `--restart`
+/// are given. The error is out of memory.
 pub fn request_of<'a>(alloc: Global, words: &'a [String]) -> Result<Option<Request<'a>>, AllocError>
     ensures { IfOk result (λ request. option_map asked_by request ≡ request_of (texts words.now)) }
 {
@@ -213,9 +214,9 @@ fn output_name(alloc: Global, file: &str) -> Result<String, AllocError>
     }
 }
 
-/// The name of the file to which the listing is written: the value of `--out`, if that is given.
-/// Otherwise it is `generate.lst` for a generated model, and in any other case the name of the FILE
-/// with `.lst` in place of a last `.gms`, or else with `.lst` added. The error is out of memory.
+/// The name of the file for the listing. It is the value of `--out`, if that is given; else
+/// `generate.lst` for a generated model; else, also with `--restart`, the name of FILE with `.lst`
+/// in place of a `.gms` at its end, or else with `.lst` added. The error is out of memory.
 pub fn output_of(alloc: Global, request: Request) -> Result<String, AllocError>
     ensures { IfOk result (λ name. string_bytes name ≡ (asked_by request.entry).output) }
 {
@@ -242,9 +243,9 @@ pub fn read_fault_line(alloc: Global, file: &str) -> Result<String, AllocError>
     format!(in alloc; "cannot read {file}\n")
 }
 
-/// The line that is printed after a generated model is solved. It has the size of the model, which
-/// is its number of plants and of markets, the number of its model status, the text `objective` of
-/// the objective's level, and the number of pivots. The error is out of memory.
+/// The line that is printed after a generated model is solved. It has `size`, the number of plants
+/// and also that of markets; the model status as a number; `objective`, the text of the objective's
+/// value; and the number of pivots. The error is out of memory.
 pub fn generated_line(
     alloc: Global,
     size: u32,
@@ -259,9 +260,9 @@ pub fn generated_line(
     )
 }
 
-/// The line that is printed at the end, after the listing is written to the file named `output`. It
-/// has the exit status of the run, `status`, the number of solves, and this name. The error is out
-/// of memory.
+/// The last line that is printed, after the listing is written to the file named `output`. It has
+/// the run's exit status (`status`), its number of solves (`solves`), and `output`. The error is
+/// out of memory.
 pub fn closing_line(
     alloc: Global,
     status: u8,
@@ -281,9 +282,9 @@ pub fn ranges_line(alloc: Global, solve: usize) -> Result<String, AllocError>
     format!(in alloc; "ranges of solve {solve}\n")
 }
 
-/// The line that is printed for one range. `what` is `right` for a range of a right side, and
-/// `cost` for a range of a cost; `element` is the text of the row or column. `low` and `high` are
-/// the texts of the ends: an absent `low` is printed as `-INF`, and an absent `high` as `+INF`. The
+/// The line for one sensitivity range. `what` is `right` for the range of a row's right side, and
+/// `cost` for that of a column's cost; `element` is the row's or column's text. `low` and `high`
+/// are the texts of the ends; `None` is printed as `-INF` for `low`, as `+INF` for `high`. The
 /// error is out of memory.
 pub fn range_line(
     alloc: Global,
@@ -300,10 +301,10 @@ pub fn range_line(
     format!(in alloc; "  {what} {element} from {from} to {to}\n")
 }
 
-/// The line that is printed for a range that is not computed, since a step of the computation
-/// exceeds the field's limit on the size of numbers. `what` is `right` for a range of a right side,
-/// and `cost` for a range of a cost; `element` is the text of the row or column. The error is out
-/// of memory.
+/// The line `WHAT ELEMENT not shown`, for a sensitivity range whose computation exceeds the field's
+/// limit on the size of numbers. `what` is `right` for the range of a row's right side, and `cost`
+/// for that of a column's cost; `element` is the row's or column's text. The error is out of
+/// memory.
 pub fn not_shown_line(alloc: Global, what: &str, element: &str) -> Result<String, AllocError>
     ensures { IfOk result (λ line. string_bytes line ≡ not_shown_line what.now element.now) }
 {

@@ -2,19 +2,21 @@
 //! flag `--ranges`.
 ghost use Rattle.gms_command.specs.Laws.{IsByParts, IsFile, IsOut, IsSave, NamesRestart, IsRanges, IsGenerate, HasSize, IsRefusedEmpty, IsRefusedBesideGenerate, IsRefusedTwice};
 
-/// What the arguments of the command line request. They are written as a list of parts: the name of
-/// a FILE, an option with its value in the next argument, or `--ranges`.
+/// What the arguments of the command line request. They consist of parts: the name of a FILE; an
+/// option (`--out`, `--save`, `--restart`, `--generate`) with its value in the next argument; or
+/// the flag `--ranges`. All laws except `sizes` assume that no file's name and no option's value
+/// begins with `-`.
 ///
-/// The arguments request what their parts request, in any order of the parts, and are refused if a
-/// part is given twice (`parts`). So a FILE alone is run with its listing in the file named after
-/// it, nothing saved, and no ranges (`file`). With one option before it, FILE is run with its
-/// listing in this file (`out`), with its last state saved in this file (`save`), from the state in
-/// this file (`restart`), or with ranges printed (`ranges`). `--generate` with a size from 1 to 30
-/// requests the generated model of this size, and with another value is refused (`generate`). A
-/// generated model that is requested has a size from 1 to 30 (`sizes`). Three kinds of arguments
-/// are refused: an empty list (`empty`); `--generate` with a FILE or with `--restart`
-/// (`beside_generate`); and two FILEs or an option given twice, at any positions (`twice`). In all
-/// laws except `sizes`, no file's name and no value of an option begins with `-`.
+/// The order of the parts does not change the request (`parts`). Two FILEs, or an option or flag
+/// given twice, are refused (`parts`, `twice`). FILE alone is run: its listing is written to the
+/// file of that name with `.lst` in place of a `.gms` at its end, or else with `.lst` added;
+/// nothing is saved, and no ranges are printed (`file`). One part before FILE changes one of these:
+/// `--out` names the file of the listing (`out`), `--save` the file in which the last state is
+/// saved (`save`), `--restart` the file with the state from which FILE resumes (`restart`), and
+/// `--ranges` requests sensitivity ranges (`ranges`). `--generate` alone requests the generated
+/// model of a size from 1 to 30; another value is refused (`generate`). Each generated model
+/// requested has such a size (`sizes`). Arguments with neither FILE nor `--generate` are refused
+/// (`parts`, `empty`). So is `--generate` with a FILE or `--restart` (`beside_generate`).
 pub fn argument_laws()
     ensures parts { IsByParts }
     ensures file { IsFile }

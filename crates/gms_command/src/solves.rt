@@ -64,18 +64,18 @@ fn push_answer<F: ExactField>(
     }
 }
 
-/// The text of the ranges that are printed for the solves of a run. `solved` has the linear program
-/// of each solve and `answers` has the answer, both in the order of the solves. The caller must
-/// prove that each linear program is well-formed, and that its answer is one under some `iterlim`
-/// and some pivot rule. `names` and `labels` are the tables of the program that is run.
+/// The text of the sensitivity ranges that are printed for the solves of a run. `solved` has the
+/// linear program of each solve, and `answers` its answer, in the order of the solves. Each program
+/// must be well formed, and its answer one under some `iterlim` and some pivot rule. `names` and
+/// `labels` are the tables of the GAMS program.
 ///
-/// The text has, for each answer that is an optimum, a line with the number of the solve, from 1.
-/// One line for the right side of each row, except nonbinding rows (`=n=`), and one for the cost of
-/// each column follow. A right side's range has its values for which the basis of the final
-/// dictionary remains feasible. A cost's range has its values for which this basis remains optimal.
-/// All other numbers stay the same (Chvatal, Linear Programming, chapter 10). A range whose
-/// computation exceeds the field's limit on the size of numbers has the line of `not_shown_line`.
-/// The error is out of memory.
+/// For each answer that is an optimum, and no other, the text has a line with the solve's number,
+/// from 1; then a line for the right side of each row, except nonbinding rows (`=n=`); then one for
+/// the cost of each column. The range of a right side has the values for which the basis of the
+/// final dictionary remains feasible, and that of a cost those for which this basis remains
+/// optimal, if all other numbers stay the same (Chvatal, Linear Programming, chapter 10). If the
+/// computation of a range exceeds the field's limit on the size of numbers, its line says
+/// `not shown`. The error is out of memory.
 pub fn ranges_text<F: ExactField>(
     alloc: Global,
     names: &Labels,

@@ -13,18 +13,19 @@ use Rattle.gms_eval.specs.Faults.{Answer, Fault, nothing, ◌and_then◌}
 use Rattle.gms_eval.specs.Lag.{label_of_element}
 use Rattle.gms_eval.specs.declared.stop.StopKind.TheVariants.{DomainSize}
 
--- the labels of the members of a one-dimensional set, in order
+-- the labels of the members of a one-dimensional set, in the order in which the state lists the
+-- members
 abbrev pub labels_of : State → ℕ → List ℕ
 labels_of state set = map label_of_element (members_of state set)
 
--- each member of the set has one label, and the members are distinct and in ascending order of
+-- each member of the set has one label, and the members are distinct and ascend by the numbers of
 -- their labels
 abbrev pub IsSimple : State → ℕ → Type 0
 IsSimple state set =
     IsOrdered (members_of state set) × ((member : List ℕ) → has (members_of state set) member ≡ true → length member ≡ 1)
 
--- the elements of the product of sets, in order. An element has at most 10 labels, so the product
--- of more sets is empty
+-- the elements of the product of sets; the label of the last set varies fastest. An element has at
+-- most 10 labels, so the product of more sets is empty
 abbrev pub elements : State → List ℕ → List (List ℕ)
 elements state sets = if nat_le (length sets) 10 then tuple_product (map (labels_of state) sets) else []
 

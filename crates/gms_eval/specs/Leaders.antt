@@ -71,15 +71,17 @@ module _ {F : Type 0} where
       MayLead other = ⊥
 
       -- the reference to `name` with `indices` may lead for conditions that are joined by `and` and
-      -- evaluated from the first to the last: it may lead for one of them (`MayLead`), and those
-      -- before it never have a fault
+      -- evaluated from the first to the last: the elements at which all hold are searched among the
+      -- reference's stored tuples. It may lead for one condition (`MayLead`), and the conditions
+      -- before that one never have a fault
       pub OneMayLead : tree.Parts F → Type 0
       OneMayLead tree.no_part = ⊥
       OneMayLead (tree.part mark condition rest) = MayLead condition ⊎ ((never_fails condition ≡ true) × OneMayLead rest)
 
-      -- the reference to `name` with `indices` may lead for guards, so that a search may pass over
-      -- the elements at which it is 0: it may lead for one of them (`MayLead`), and those after it
-      -- never have a fault. Guards are evaluated from the last to the first
+      -- The reference to `name` with `indices` may lead for guards, which are evaluated from the
+      -- last to the first: the elements at which the guards hold are searched among the stored
+      -- tuples of the reference. The reference may lead for one guard (`MayLead`), and the guards
+      -- after that guard never have a fault.
       pub LastMayLead : tree.Parts F → Type 0
       LastMayLead tree.no_part = ⊥
       LastMayLead (tree.part mark condition rest) = LastMayLead rest ⊎ ((none_fails rest ≡ true) × MayLead condition)
@@ -115,10 +117,10 @@ module _ {F : Type 0} where
       let others = free_after binding indices (before ++ name ∷ []) rest in
       if is_told binding indices before name then others else name ∷ others
 
-  -- An upper bound of how many elements a traversal of the stored tuples of the reference to `name`
-  -- visits, for a control of these sets: the number of the tuples that begin with `leading_labels`,
-  -- times the number of elements in the product of the sets whose labels the tuples do not
-  -- determine.
+  -- An upper bound of how many elements a search over these sets visits if it traverses the stored
+  -- tuples of the reference to `name`: the number of the tuples that begin with the known labels of
+  -- its first indices (`leading_labels`), times the number of elements in the product of the sets
+  -- whose labels the tuples do not determine.
   abbrev pub reach : State → Pairs → List ℕ → ℕ → tree.Indices F → ℕ
   reach state binding sets name indices =
       length (those_with (given_of state name) (leading_labels binding indices)) * length (elements state (free_after binding indices [] sets))

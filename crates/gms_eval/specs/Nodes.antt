@@ -126,8 +126,8 @@ one_step mark x answer = answer
 
 module _ (limit : ℕ) (binding : Pairs) where
   -- the operation of a sum, for a mark `signed at subtracts`: the operand is added to the value so
-  -- far, or subtracted from it if `subtracts`; for a mark of another kind, the answer of the
-  -- operand
+  -- far, or subtracted from it if `subtracts`; or the fault of the operand, or else that of this
+  -- operation, at the place `at`. For a mark of another kind, the answer of the operand
   abbrev pub sum_step : ValueStep
   sum_step (signed at subtracts) x answer =
       answer and_then λ y. taken at binding x y (if subtracts then difference limit x y else sum limit x y)
@@ -193,19 +193,21 @@ module _ (limit : ℕ) (binding : Pairs) where
   count_value at n = taken at binding nothing nothing (number_if (fits limit (whole (pos n))) (whole (pos n)))
 
   -- the value so far of a fold joined with that of its next body: their sum, product, lesser or
-  -- greater
+  -- greater; or the fault of the sum or the product, at the place `at`
   abbrev pub fold_join : FoldOp → Place → Extended → Extended → Answer Extended
   fold_join Sum at x y = taken at binding x y (sum limit x y)
   fold_join Prod at x y = taken at binding x y (product limit x y)
   fold_join Smin at x y = Ok (lesser x y)
   fold_join Smax at x y = Ok (greater x y)
 
-  -- the operation of a fold: the value so far joined with that of the next body
+  -- the operation of a fold: the value so far, x, is joined with y, the value of the next body; if
+  -- that body has a fault, this fault is the result
   abbrev pub fold_step : FoldOp → Place → ValueStep
   fold_step op at mark x answer = answer and_then λ y. fold_join op at x y
 
-  -- the answer of a fold with these bodies, each the answer for one element. The fault of an
-  -- operation is at the place of the fold; `smin` and `smax` of no bodies are a fault
+  -- the sum, product, least or greatest value of a fold's bodies, each the answer for one element;
+  -- or the first fault, that of a body, or that of a sum or product, at the place `at` of the fold.
+  -- `smin` and `smax` of no bodies have the fault EmptyExtreme
   abbrev pub folded : FoldOp → Place → Marked → Answer Extended
   folded op at bodies =
       joined (fold_step op at) (Err (faulted EmptyExtreme at binding nothing nothing)) (start_of op) bodies

@@ -61,7 +61,7 @@ plain_value state name content tuple = value_of state name tuple
 module _ (limit : ℕ) (state : State) (binding : Pairs) where
   -- the value of the name at a tuple: without a suffix its value there, with one the bound, level,
   -- marginal or status number that the suffix denotes; 0 for `.fx`. A status number over the limit
-  -- is a fault at the place `at`
+  -- of the size of numbers is a fault at the place `at`
   abbrev pub read_entry : Place → ℕ → Suffix → List ℕ → Answer Extended
   read_entry at name suffix.None tuple = Ok (plain_value state name (symbol_of state name).content tuple)
   read_entry at name suffix.Lo tuple = Ok (lower_value (attributes_of state name tuple).lower)

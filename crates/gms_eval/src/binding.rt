@@ -87,9 +87,9 @@ impl Binding {
         self.pairs.len()
     }
 
-    /// Keeps the first `outer` pairs, drops the others, and appends a pair of each set of `sets`
-    /// and the label at the same position in `labels`. If one list is longer, its further entries
-    /// have no effect. No contract states which pairs remain after out of memory.
+    /// Keeps at most the first `outer` pairs, drops the others, and appends pairs of a set, by the
+    /// number of its name, and a label: one pair for each position that both `sets` and `labels`
+    /// have. If memory runs out, no contract states which pairs remain.
     pub fn control(&mut self, outer: usize, sets: &[u32], labels: &[u32]) -> Result<(), AllocError>
         ensures { OnOk result (self.new ≡ take outer self.old ++ paired sets.now labels.now) }
     {

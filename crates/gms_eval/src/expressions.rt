@@ -36,17 +36,18 @@ use std::alloc::Global;
 /// The value of the expression `e` in the state `store`, under the labels that the binding `b`
 /// gives the controlled sets.
 ///
-/// A stop is the first fault. Operands are evaluated from the left to the right, guards from the
-/// last to the first and before their operand, all amounts of the lags of a reference before the
-/// data that the reference reads, and a fold's domain before its bodies. An operand that decides
-/// nothing is not evaluated: the right operand of `and` if the left one is 0, the right operand of
-/// `or` if the left one is not 0, and an operand under a guard that is 0. The kinds of stop are
-/// `Limit`, `Divide`, `LagNotWhole`, `EmptyExtreme`, `Exponent`, `DomainSize` and `Undefined`. GAMS
-/// User's Guide, "Data Manipulations with Parameters", "Conditional Expressions, Assignments and
-/// Equations".
+/// The error is `Memory` or the first fault. Operands are evaluated from the left to the right; the
+/// conditions after `$` from the last to the first and before the operand of the `$`; the amounts
+/// of all lags of a reference before the data that it reads; and the condition of a fold, such as
+/// `sum`, for all elements before the fold's body for any element. Not evaluated are: the right
+/// operand of `and` if the left one is 0; that of `or` if the left one is not 0; and, if a
+/// condition after `$` is 0, the operand and the conditions before: the value is 0. The kinds of
+/// fault are `Limit`, `Divide`, `LagNotWhole`, `EmptyExtreme`, `Exponent`, `DomainSize` and
+/// `Undefined`. GAMS User's Guide, "Data Manipulations with Parameters", "Conditional Expressions,
+/// Assignments and Equations".
 ///
 /// A name that the program does not have reads as a name without data, and a set without a label in
-/// the binding as an index without an element; a checked program has neither.
+/// the binding as an index without an element; an accepted program has neither.
 #[cycle(value)]
 pub fn value<F: ExactField>(
     alloc: Global,
@@ -177,12 +178,12 @@ fn denied<F: ExactField>(
     Ok(truth(!is_so(x)))
 }
 
-/// The value of a sum or a product, as `kind` says, whose operands are joined from the left to the
-/// right; 0 without operands.
+/// The value of a sum or a product, as `kind` says; 0 without operands. From left to right each
+/// operand is evaluated and joined.
 ///
-/// Each entry of `parts` is the place of an operand in the source, whether a sum subtracts the
-/// operand or a product divides by it, and the operand. For the first operand the place and the
-/// bool have no effect. A stop is the first fault of an operand or an operation.
+/// An entry of `parts` is an operand's place in the source, whether a sum subtracts it or a product
+/// divides by it, and the operand. The first place and bool have no effect. The error is `Memory`
+/// or the first fault of an operand or an operation.
 #[cycle(value)]
 #[inline(never)]
 pub fn signed_chain<F: ExactField>(
@@ -293,8 +294,8 @@ fn one_of<F: ExactField>(
 }
 
 /// Whether all guards, the conditions after `$`, hold; true if there is none. A guard holds if its
-/// value is not 0. They are evaluated from the last to the first, up to one that does not hold. A
-/// stop is the first fault of an evaluated guard.
+/// value is not the number 0. They are evaluated from the last to the first, until one does not
+/// hold. The error is `Memory` or the first fault.
 #[cycle(value)]
 #[inline(never)]
 pub fn all_hold<F: ExactField>(
@@ -334,10 +335,10 @@ fn arguments<F: ExactField>(
     Ok(values)
 }
 
-/// The tuple of the labels that the indices have, in order; `None` if an index has no label or
-/// there are more than 10 indices. A set has no label if the binding gives it none, or if its lag
-/// reaches none. A stop is the first fault of a lag: a fault in the evaluation of the amount, or
-/// `LagNotWhole` if the amount is not a whole number.
+/// The tuple of the labels of the indices, in order; `None` if an index has no label or there are
+/// over 10 indices. A set has no label if `b` gives it none, or if its lag leads from that label to
+/// none. The error is `Memory` or the first fault of a lag: in the evaluation of its amount, or
+/// `LagNotWhole` if that is no whole number.
 #[cycle(value)]
 #[inline(never)]
 pub fn tuple_of<F: ExactField>(
@@ -472,11 +473,11 @@ fn folded<F: ExactField>(
     }
 }
 
-/// Whether the condition `e` holds in the state `store`, under the binding `b`: the value of the
-/// condition is not the number 0.
+/// Whether the condition `e` holds in the state `store`, under the binding `b`: whether its value
+/// is not the number 0.
 ///
-/// A stop is the first fault in the evaluation of the condition. GAMS User's Guide, "Conditional
-/// Expressions, Assignments and Equations".
+/// The error is `Memory`, or the first fault in the evaluation of `e`. GAMS User's Guide,
+/// "Conditional Expressions, Assignments and Equations".
 pub fn holds<F: ExactField>(
     alloc: Global,
     store: &Store<F>,
@@ -492,11 +493,11 @@ pub fn holds<F: ExactField>(
 /// `b`: those elements of the product of its sets for which its condition, if any, holds. They are
 /// in the order of tuples: by the number of the first label, then of the second, and so on.
 ///
-/// If the product has more than 16,777,216 elements, the stop is `DomainSize` at the place `at`;
-/// its count is the number of elements, or the greatest `u64` if there are more. Otherwise a stop
-/// is the first fault of the condition, which is evaluated for each element in order, under the
-/// binding extended by the labels of the element. GAMS User's Guide, "Data Manipulations with
-/// Parameters", "Conditional Expressions, Assignments and Equations".
+/// If the product has more than 16,777,216 elements, the error is the stop `DomainSize` at the
+/// place `at`. Otherwise it is the fault of the condition for the first element with a fault. The
+/// condition is evaluated under `b` extended by the element's labels. The error may always be
+/// `Memory` instead. GAMS User's Guide, "Data Manipulations with Parameters", "Conditional
+/// Expressions, Assignments and Equations".
 pub fn domain<F: ExactField>(
     alloc: Global,
     store: &Store<F>,
@@ -517,9 +518,10 @@ pub fn domain<F: ExactField>(
 /// any, holds in the state `store` under the binding `b`. They are in the order of tuples: by the
 /// number of the first label, then of the second, and so on.
 ///
-/// The function is `domain` for sets and a condition that the source does not write as one control,
-/// as on the left side of an assignment. It stops as `domain` does; `at` is the place of
-/// `DomainSize`.
+/// The sets and the condition need not be one control of the source: on a left side they are its
+/// index sets and its condition. If the product has more than 16,777,216 elements, the error is the
+/// stop `DomainSize` at `at`. Otherwise it is the fault of the condition for the first element with
+/// a fault, under `b` extended by the element's labels. The error may always be `Memory` instead.
 pub fn domain_over<F: ExactField>(
     alloc: Global,
     store: &Store<F>,

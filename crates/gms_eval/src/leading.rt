@@ -220,18 +220,19 @@ fn traversal_by<F: ExactField>(
     }))
 }
 
-/// What a search of a condition has found. The search is for a reference that allows a shorter
-/// loop: a loop over the stored tuples of the reference, in place of one over the product of the
-/// sets of a control.
+/// What a search of the condition of a fold (such as `sum`), a loop or a left side (of an
+/// assignment or a definition) has found. The search is for a reference in the condition that
+/// allows a shorter traversal: of the stored tuples of the referenced name, in place of the product
+/// of the controlled sets.
 #[derive(Drop)]
 pub(crate) struct Scan {
-    /// Whether the shape of the searched condition alone shows that its evaluation has no fault.
+    /// Whether the shape of the condition shows that in no state its evaluation has a fault.
     pub safe: bool,
-    /// How many elements `traversal` visits, or, if it is `None`, the bound with which the search
-    /// began. If the search continues, it takes a traversal only if that visits fewer elements.
+    /// The number of elements that `traversal` visits; if that is `None`, the bound with which the
+    /// search began. A traversal found later replaces it only if it visits fewer elements.
     pub bound: usize,
-    /// The traversal of the stored tuples of a reference that visits the fewest elements, of those
-    /// found; `None` if each visits at least as many elements as the bound at the start.
+    /// Of the traversals that the search found, the one that visits the fewest elements; `None` if
+    /// none visits fewer elements than the bound with which the search began.
     pub traversal: Option<Traversal>,
 }
 

@@ -112,19 +112,19 @@ impl StopKind {
 pub struct ExecStop<F> {
     /// Why the execution stops.
     pub kind: StopKind,
-    /// The place in the source: that of the right operand of `+`, `-`, `*`, `/` or `**`, that of
-    /// the amount of a lag, otherwise that of the first character of the expression, statement or
-    /// displayed name at which the execution stops.
+    /// The place in the source: of the right operand if `+`, `-`, `*`, `/` or `**` stops; of the
+    /// amount if a lag stops; otherwise of the first character of the expression, statement or
+    /// displayed name that stops.
     pub at: Place,
-    /// The controlled sets at the operation, each with its label, outermost first.
+    /// The sets controlled at the stop, each with its label, outermost first.
     pub binding: Binding,
-    /// The left operand of the operation that stops, or the amount of the lag if a lag stops; 0 if
-    /// there is neither.
+    /// The left operand of the operation, the amount of the lag, or the value that stops; otherwise
+    /// 0.
     pub left: Ext<F>,
     /// The right operand of the operation that stops; 0 if there is none.
     pub right: Ext<F>,
-    /// The number of elements, rows or columns if the stop is because they are too many, or the
-    /// greatest `u64` if there are more; 0 for the other kinds of stop.
+    /// If there are too many elements, rows or columns: the lesser of their number and the greatest
+    /// `u64`. For the other kinds of stop: 0.
     pub count: u64,
 }
 
@@ -201,8 +201,8 @@ impl<F: ExactField> ExecStopOrMemory<F> {
     }
 
     /// The stop of this kind at an operation on the operands `left` and `right`, at the place `at`,
-    /// under the binding `b`; `Memory` if there is no memory for the stop. The count of the stop, a
-    /// number of elements, rows or columns at stops of other kinds, is 0.
+    /// under the binding `b`; `Memory` if there is no memory for the stop. The stop has the count
+    /// 0.
     #[inline(never)]
     pub fn at_step(
         alloc: Global,
@@ -217,8 +217,8 @@ impl<F: ExactField> ExecStopOrMemory<F> {
         ExecStopOrMemory::made(alloc, kind, at, left, right, 0, b)
     }
 
-    /// The stop of this kind because there are `count` elements of a domain, or rows or columns of
-    /// a linear program, at the place `at`, under the binding `b`; `Memory` if there is no memory
+    /// The stop of this kind because a domain has `count` elements, or a linear program `count`
+    /// rows or columns, at the place `at`, under the binding `b`; `Memory` if there is no memory
     /// for the stop. The operands of the stop are 0.
     #[inline(never)]
     pub fn counted(

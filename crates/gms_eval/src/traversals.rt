@@ -12,35 +12,34 @@ use gms_tuple::{MOST_LABELS, Tuple, TupleSet};
 use gq_field::ExactField;
 use std::alloc::{AllocError, Global};
 
-/// A traversal of stored tuples of a name, which gives elements of a control. Each label of an
-/// element is taken from the tuple, or from an element of the product of the sets whose labels the
-/// tuple does not determine.
+/// A traversal of stored tuples of a name, which finds elements of a product of sets. The label of
+/// one of these sets is taken from the tuple or, if the tuple does not determine it, runs through
+/// the members of the set.
 ///
-/// In `sum((i,j,k)$s(j,i), w(i,k))` the traversal goes over the tuples of `s`, each followed by a
-/// label of `k`. The label of `i` is at the index 1, that of `j` at the index 0, and that of `k` at
-/// the index 2.
+/// In `sum((i,j,k)$s(j,i), w(i,k))` the traversal visits the tuples of `s`, each followed by each
+/// label of `k`. In the list of these labels that of `j` has the index 0, that of `i` 1, and that
+/// of `k` 2.
 #[derive(Drop)]
 pub(crate) struct Traversal {
     /// The number of the name whose tuples are traversed.
     pub name: u32,
-    /// The index of the first traversed tuple among the stored tuples of the name, from 0.
+    /// The index of the first traversed tuple among the stored tuples of the name `name`, from 0.
     pub from: usize,
-    /// The index after that of the last traversed tuple among the stored tuples of the name, from
-    /// 0.
+    /// The index in the stored tuples of `name` after the last traversed one; `from` if there is
+    /// none.
     pub upto: usize,
-    /// The sets of the control whose labels the tuples do not determine, by the numbers of their
-    /// names, in the order of the control.
+    /// The sets of the fold (such as `sum`), the loop or the left side whose labels a traversed
+    /// tuple does not determine: the numbers of their names, in the order of these sets.
     pub free: Vec<u32>,
-    /// The number of elements of the product of the sets `free`, whose labels the tuples do not
-    /// determine.
+    /// The number of elements of the product of the sets `free`; 1 if there are no such sets.
     pub spread: usize,
-    /// For each label of an element of the control, in order, the index, from 0, at which the label
-    /// occurs in the list of a traversed tuple's labels followed by a label of each of the sets
-    /// `free`, those whose labels the tuples do not determine.
+    /// For each set of the fold (such as `sum`), the loop or the left side, in order: the index,
+    /// from 0, of the set's label in the list of a traversed tuple's labels, followed by one label
+    /// of each of the sets `free`.
     pub places: Vec<usize>,
 }
 
-/// The label of a tuple at a place; 0 if it has none.
+/// The label of a tuple at the index `place`, from 0; 0 if the tuple has no label at this index.
 fn label_in(tuple: &Tuple, place: usize) -> u32
     ensures { result ≡ slice_index tuple.now place }
 {

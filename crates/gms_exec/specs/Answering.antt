@@ -10,11 +10,11 @@ use Rattle.lp_slot.specs.declared.solver.SolverRule.{SolverRule}
 use Rattle.lp_core.specs.declared.program.Lp.{Lp}
 use Rattle.gms_event.specs.Events.{Solved}
 
--- The solve `solved`, an event of a run, is answered: its linear program is `lp` with the numbers
--- that its values mean, and the answer at the index `solved.answer` of `answers` is an answer of
--- `lp`, under the limit `limit` on the size of numbers, with at most `iterlim` pivots. The pivots
--- obey the rule of the solver that the settings of the solve choose; `rules` has the pivot rule of
--- each solver. `value` gives the number that a value of `F` means.
+-- The solve `solved`, an event of a run, is answered. Its linear program is `lp`, with the number
+-- that `value` gives each value of `F`. The answer at the index `solved.answer` of `answers` is an
+-- answer of `lp`, under the limit `limit` on the size of numbers and the solve's setting `iterlim`,
+-- a limit of pivots. The pivots obey the rule of the solver that the solve's settings choose;
+-- `rules` has the pivot rule of each solver.
 pub record IsSolved {F : Type 0} (value : F → Number) (limit : ℕ) (rules : List SolverRule) (answers : List (Answer F)) (solved : Solved) : Type 0 where
   pub lp : Lp F
   pub shows : lp_numbers value lp ≡ solved.lp

@@ -62,7 +62,8 @@ target_of target =
 
 module _ {F : Type 0} (number_of : F → Number) (limit : ℕ) (state : State) where
   -- what the right side assigns under a binding: to a set whether the element is a member, to any
-  -- other name a value; or the first fault
+  -- other name a value; or the first fault, also that of a value that the name with its suffix
+  -- cannot have (`where_taken`)
   abbrev pub given_under : Target F → Place → tree.Tree F → Pairs → Answer Given
   given_under target right_at right binding =
       if is_set (symbol_of state target.name).content then
@@ -84,11 +85,11 @@ module _ {F : Type 0} (number_of : F → Number) (limit : ℕ) (state : State) w
   given_elements (None ∷ rest) = given_elements rest
   given_elements (Some given ∷ rest) = given ∷ given_elements rest
 
-  -- the elements with what an assignment in a statement at the place `at` assigns to each, in the
-  -- order of the left side's sets, all evaluated in the old state, without those whose left side
-  -- has no tuple (`element_under`); or the first fault: of the left side's domain with the
-  -- condition, and then, for each element, of a lag, of the right side, and of a value that cannot
-  -- be assigned. `right_at` is the place of the right side
+  -- what an assignment at the place `at` assigns to each element of the left side's sets for which
+  -- its condition holds, in order, all evaluated in the old state, without those whose left side
+  -- has no tuple (`element_under`). Or the first fault: of the left side's domain with the
+  -- condition, then, for each element, of a lag, of the right side, and of a value that cannot be
+  -- assigned. `right_at` is the place of the right side
   abbrev pub given_by : Place → Pairs → Target F → Option (tree.Tree F) → Place → tree.Tree F → Answer AllGiven
   given_by at binding target condition right_at right =
       let sets = newly_controlled binding target.indices in

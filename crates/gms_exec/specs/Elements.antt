@@ -21,7 +21,8 @@ pub record IsElement (state : State) (key : Key) : Type 0 where
 abbrev pub IsNot : State → Key → ℕ → List ℕ → Type 0
 IsNot state key name t = base_of state name ≡ base_of state key.symbol → same_tuple key.tuple t ≡ false
 
--- The keys are those of elements of the state, and all different.
+-- The keys are those of elements of variables and equations of the state (`IsElement`), and all
+-- different.
 pub record AreElements (state : State) (keys : List Key) : Type 0 where
   pub each : (i : ℕ) (key : Key) → slice_get keys i ≡ Some key → IsElement state key
   pub differ : (i j : ℕ) (key other : Key) → slice_get keys i ≡ Some key → slice_get keys j ≡ Some other → (i ≡ j → ⊥) → IsNot state key other.symbol other.tuple

@@ -22,13 +22,13 @@ pub record CanExecute {F : Type 0} (n : ℕ) (statements : List (Stmt F)) (state
   pub settings : AreValidSettings n state.settings
   pub plain : AreOneDimensional state statements
 
--- What holds after calls that take a run from the view `old` to the view `new`. Each solve among
--- the events that they append has an answer by the pivot rule of its solver, under the limit
--- `limit` on the size of numbers. The solvers keep their names and rules, and the pivots of each
--- answer are appended to the paths of its solver. Each appended event is valid: a display or an
--- abort shows at most 8 decimals, and a solve has a well-formed linear program and an answer. The
--- statements can still be executed. `name`, `rule` and `paths` give a solver's name, its pivot
--- rule, and the pivots of each answer that it gave.
+-- What holds after calls that take a run from the view `old` to `new`. Each solve among the
+-- appended events has an answer by the pivot rule of its solver, under the limit `limit` on the
+-- size of numbers. The solvers keep their names and rules, and the pivots of each answer are
+-- appended to the paths of its solver. Each appended event is valid: a display or an abort shows at
+-- most 8 decimals, and a solve has a well-formed linear program and an answer. `statements` can be
+-- executed in the new state. `name`, `rule` and `paths` give a solver's name, its pivot rule, and
+-- the pivots of each answer that it gave.
 pub record Leaves {S F : Type 0} (value : F → Number) (limit : ℕ) (name : S → List ℕ) (rule : S → SolverRule) (paths : S → List (List Pivot)) (statements : List (Stmt F)) (old_solvers new_solvers : List S) (old new : RunView F) : Type 0 where
   pub answered : Answered value limit name rule paths old_solvers new_solvers old new
   pub valid : ShowsValidEvents value limit (map rule old_solvers) new.answers old.events new.events

@@ -29,7 +29,8 @@ abbrev pub member_given : List ℕ × Given → List (List ℕ × Bool)
 member_given (t, member on) = (t, on) ∷ []
 member_given (t, value_is x) = []
 
--- the elements with whether each becomes a member
+-- the elements to which an assignment to a set assigns, each with whether it becomes a member;
+-- elements to which a value is assigned are not among them
 abbrev pub members_given : AllGiven → List (List ℕ × Bool)
 members_given all = flat_map member_given all
 
@@ -95,8 +96,8 @@ with_attribute suffix.M a value = with_marginal a (number_of_value value)
 with_attribute suffix.Fx a value = fixed (number_of_value value) a
 with_attribute other a value = a
 
--- the elements to which values are assigned, each with its attributes afterwards; before, it has
--- those in `content`
+-- the elements to which values are assigned, each with its attributes afterwards: those that it has
+-- in `content`, with its value assigned to the attribute of this suffix (`with_attribute`)
 abbrev pub attributes_given : Suffix → Content → AllGiven → List (List ℕ × Attributes)
 attributes_given suffix content all =
     map (λ given. (given.0, with_attribute suffix (attributes_in content given.0) given.1)) (values_given all)
@@ -108,9 +109,9 @@ abbrev pub plain_values : Suffix → AllGiven → List (List ℕ × Extended)
 plain_values suffix.None all = values_given all
 plain_values other all = []
 
--- the content of a name after an assignment of `all`, with this suffix, to elements of the name.
--- Entries that equal those of an element without data are not kept. A content that is no set,
--- parameter, variable or equation is unchanged.
+-- the content of a name after an assignment to the name with this suffix; `all` has the elements,
+-- each with what is assigned to it. Entries that equal those of an element without data are not
+-- kept. A content that is no set, parameter, variable or equation is unchanged.
 abbrev pub with_given : Suffix → AllGiven → Content → Content
 with_given suffix all (set_of members) = set_of (with_members (members_given all) members)
 with_given suffix all (parameter_of entries) = parameter_of (overlaid_entries is_given (plain_values suffix all) entries)

@@ -17,13 +17,14 @@ use Rattle.gms_eval.specs.Value.{values}
 abbrev pub MembershipJoin : Type 0
 MembershipJoin = Mark → Bool → Bool → Bool
 
--- the step of a sum: after `+` the next result has what either has; after `-` it has what the
--- result so far has and the operand has not
+-- the step of a sum, for one element: after `+` it is in the next result if it is in the result so
+-- far or in the operand; after `-`, if it is in the result so far and not in the operand
 abbrev pub in_sum : MembershipJoin
 in_sum (signed at true) x y = x && not y
 in_sum mark x y = x || y
 
--- the step of a product: the next result has what both the result so far and the operand have
+-- the step of a product: the element is in the next result if it is in the result so far and in the
+-- operand
 abbrev pub in_product : MembershipJoin
 in_product mark x y = x && y
 
@@ -35,9 +36,10 @@ joined_membership join so_far (part ∷ parts) = part.1 and_then λ x. joined_me
 module _ {F : Type 0} (number_of : F → Number) (limit : ℕ) (state : State) (binding : Pairs) where
   abbrev mutual
     -- Whether the right side of an assignment to a set makes the element of a binding a member, or
-    -- the first fault. An operand under a guard that does not hold is false, and a unary `-` has no
-    -- effect. Any other expression makes the element a member if it holds as a condition; in an
-    -- accepted program it is a reference to a set.
+    -- the first fault. A sum is the union, after `-` the difference (`in_sum`); a product is the
+    -- intersection, and `not` the complement. An operand whose guards do not all hold gives false,
+    -- and a unary `-` has no effect. Any other expression makes the element a member if it holds as
+    -- a condition; in an accepted program it is a reference to a set.
     pub membership : tree.Tree F → Answer Bool
     membership tree.yes = Ok true
     membership tree.no = Ok false
@@ -49,8 +51,8 @@ module _ {F : Type 0} (number_of : F → Number) (limit : ℕ) (state : State) (
         each_holds (unmarked (values number_of limit state binding guards)) and_then λ hold. if hold then membership operand else Ok false
     membership other = holds number_of limit state binding other
 
-    -- the answers of the operands of a sum or a product, each with its mark, which has the operator
-    -- before it
+    -- for each operand of a sum or a product, whether it makes the element a member (`membership`),
+    -- or its fault, with the operand's mark, which has the operator before the operand
     pub memberships : tree.Parts F → List (Mark × Answer Bool)
     memberships tree.no_part = []
     memberships (tree.part mark part rest) = (mark, membership part) ∷ memberships rest

@@ -84,9 +84,9 @@ labels_in world = length world.program.labels
 abbrev pub OfStatement : Type 0
 OfStatement = Pairs → Course → Course
 
--- the effect of an act, that is, of a statement without its place, on a course, that is, on how far
--- a run has come, from the place of the statement; the pairs give a label to each set that the
--- loops around the act control
+-- the effect of an act (a statement without its place) on a course (how far a run has come): from
+-- the statement's place, the pairs and the course before the act to the course after the act. The
+-- pairs give a label to each set that the loops around the act control
 abbrev pub OfAct : Type 0
 OfAct = Place → Pairs → Course → Course
 
@@ -116,8 +116,9 @@ module _ {F : Type 0} (number_of : F → Number) (limit : ℕ) where
       with_evaluated (all_shown labels course.state binding items)
       (λ shown. stopped_by (with_event course (aborts at.line shown)) (faulted Aborted at binding nothing nothing)) course
 
-  -- the course after an abort in a program with `labels` labels: the abort acts if it has no
-  -- condition or its condition holds; a fault of the condition halts the run
+  -- the course after an abort in a program with `labels` labels. Without a condition, or if its
+  -- condition holds, the abort shows its items and halts the run (`abort`); otherwise it changes
+  -- nothing. A fault of the condition or of an item halts the run, and nothing is shown
   abbrev pub abort_where : ℕ → Option (tree.Tree F) → List Show → OfAct
   abort_where labels None items at binding course = abort labels items at binding course
   abort_where labels (Some condition) items at binding course =
@@ -130,9 +131,9 @@ module _ {F : Type 0} (number_of : F → Number) (limit : ℕ) where
       with_evaluated (domain number_of limit course.state binding at control) (λ elements. for_each (sets_of control) body elements binding course) course
 
   -- the course after a solve of this linear program: the next answer is written into the state, and
-  -- the solve is shown, with the index of its answer and the objective's level after the solve; if
-  -- no answer remains the run halts. `solvers` has the names of the solvers, and `equations` the
-  -- numbers of the names of the model's equations.
+  -- the event of the solve is appended, with the index of the answer and the objective's level
+  -- after the solve; if no answer remains the run halts. `solvers` has the names of the solvers,
+  -- and `equations` the numbers of the names of the model's equations.
   abbrev pub answered : List (List ℕ) → ℕ → List ℕ → ℕ → Place → Course → Lp Number → Course
   answered solvers model equations objective at course lp =
       elim course.left [

@@ -58,10 +58,11 @@ elements_at labels state positions = if nat_le (length positions) 10 then tuple_
 abbrev pub is_indexed : State → ℕ → Bool
 is_indexed state name = not (length (symbol_of state name).domain == 0)
 
--- The tuples at which a name is shown in a program with `labels` labels: for a bound all elements
--- of its domain, or the fault DomainSize, with `binding`, if these are more than 16,777,216; for a
--- name without positions the empty tuple; otherwise the tuples with data: the members of a set, or
--- those at which the name keeps an entry.
+-- The tuples whose values a display or an abort may show of a name, in a program with `labels`
+-- labels. With the suffix of a bound: all elements of the name's domain, or the fault DomainSize,
+-- with `binding`, if these are more than 16,777,216. Otherwise: for a name without positions the
+-- empty tuple; for any other name the tuples with data, that is, the members of a set, or those at
+-- which the name keeps an entry.
 abbrev pub tuples_looked_at : ℕ → State → Pairs → Named → Suffix → Answer (List (List ℕ))
 tuples_looked_at labels state binding named suffix =
     if is_bound suffix then sized named.at binding (elements_at labels state (symbol_of state named.name).domain) else
@@ -73,8 +74,9 @@ abbrev pub entries_shown : State → ℕ → Suffix → List (List ℕ) → List
 entries_shown state name suffix tuples =
     filter (λ entry. if is_indexed state name then is_so entry.1 else true) (map (λ t. (t, value_shown state name suffix t)) tuples)
 
--- what is shown of an item, a text or a name with a suffix, in a program with `labels` labels; or
--- the fault DomainSize, with `binding`
+-- What is shown of an item, a text or a name with a suffix, in a program with `labels` labels. If
+-- the suffix is `lo` or `up` and the name's domain has more than 16,777,216 elements, the fault
+-- DomainSize, which lists the sets and labels of `binding`.
 abbrev pub shown_of : ℕ → State → Pairs → Show → Answer Shown
 shown_of labels state binding (show.Text word) =
     Ok (record { text = word.text; name = None; kind = Undeclared; suffix = suffix.None; indexed = not true; entries = []; decimals = state.settings.decimals })

@@ -44,7 +44,7 @@ points (key ∷ keys) levels marginals =
 abbrev pub keys_of_columns : Lp Number → List Key
 keys_of_columns lp = map (λ (column : Column Number). column.key) lp.columns
 
--- the elements of the rows of a linear program, in order
+-- the key of each row of a linear program, in order: an element of an equation
 abbrev pub row_keys : Lp Number → List Key
 row_keys lp = map (λ (row : Row Number). row.key) lp.rows
 
@@ -63,8 +63,9 @@ abbrev pub with_point : State → Point → State
 with_point state point =
     after_attributes state point.key.symbol point.key.tuple (with_marginal (with_level (attributes_of state point.key.symbol point.key.tuple) point.level) point.marginal)
 
--- the state after a solve of the model whose linear program had this end: the two statuses, levels
--- and marginals are written, and all else stays
+-- the state after a solve of the model whose linear program had this end: the model's two statuses
+-- are written, and, if the end has a feasible point, the levels and marginals of columns and rows
+-- (`points_of`); all else stays
 abbrev pub after_end : State → ℕ → Lp Number → End Number → State
 after_end state model lp end =
     fold with_point (after_statuses state model (statuses_of end).0 (statuses_of end).1) (points_of lp end)

@@ -45,10 +45,11 @@ module _ {F : Type 0} (value : F → Number) where
   Comes (Err Memory) course now = Unit {0}
   Comes (Err (Stop stop)) course now = course ≡ stopped_by now (fault_of value stop)
 
-  -- A call with this result did to a run what `does` makes of its course. It appended events and
-  -- answers. With these answers, whichever follow them, `does` leads from the old point of the run
-  -- to the new one, halted by the fault if the result is a stop. Out of memory makes no claim of
-  -- what `does` leads to.
+  -- A call has this result; `old` and `new` are the views of the run before and after it. It
+  -- appended the events `shown` and the answers `fresh`. The function `does` maps the course of
+  -- `old`, for which `fresh` and then the answers `more` remain, to the course of `new`, for which
+  -- `more` remain. If the result is a stop, it maps to this course halted by the stop's fault. Out
+  -- of memory makes no claim of `does`.
   pub record Runs {A : Type 0} (result : Result A (ExecStopOrMemory F)) (does : Course → Course) (old new : RunView F) : Type 0 where
     pub shown : List (Event F)
     pub events : new.events ≡ old.events ++ shown
@@ -66,12 +67,12 @@ paths_taken {F} k answers (event.Solve line model equations lp answer solver set
     (if settings.solver == k then option_to_list (option_map (λ (a : Answer F). a.pivots) (slice_get answers answer)) else []) ++ paths_taken k answers events
 paths_taken {F} k answers (other ∷ events) = paths_taken k answers events
 
--- The solvers after a call, `new`: their number, order, names and rules are those of `old`, and to
--- the paths of each are appended the pivots of the answers that it gave. Each solve that the call
--- showed has an answer to its linear program by its solver's rule (`AreAnswered`); `limit` is the
--- limit of the size of numbers. `name`, `rule` and `paths` give a solver's name, its rule for the
--- choice of pivots, and the pivots of each answer that it gave; `before` and `after` are the views
--- of the run. `value` gives the number that a value of `F` means.
+-- The solvers are `old` before a call and `new` after it, the views of the run `before` and
+-- `after`. Number, order, names and rules are unchanged. To each solver's paths are appended the
+-- pivots of its answers in the call. Each solve that the call appended to the events has an answer
+-- to its linear program by its solver's rule (`AreAnswered`); `limit` bounds the size of numbers.
+-- `name`, `rule` and `paths` give a solver's name, its pivot rule, and the pivots of each answer
+-- that it gave. `value` gives the number that a value of `F` means.
 pub record Answered {S F : Type 0} (value : F → Number) (limit : ℕ) (name : S → List ℕ) (rule : S → SolverRule) (paths : S → List (List Pivot)) (old new : List S) (before after : RunView F) : Type 0 where
   pub names : map name new ≡ map name old
   pub rules : map rule new ≡ map rule old

@@ -13,10 +13,10 @@ use Rattle.lp_slot.specs.Under.{IsAnswerUnder}
 use Rattle.lp_core.specs.WellFormed.{IsWellFormed}
 
 module _ {F : Type 0} (value : F → Number) (limit : ℕ) (rules : List SolverRule) (answers : List (Answer F)) where
-  -- A shown solve has a well-formed linear program, and the answer at the index `place` in the list
-  -- `answers` is one of this program: under the limit of pivots, `iterlim`, of the solve's
-  -- settings, and by the rule for the choice of pivots of the solver that they choose. `rules` has
-  -- the rule of each solver, and `limit` is the limit of the size of numbers.
+  -- A shown solve has a well-formed linear program. At the index `place` of the list `answers` is
+  -- an answer of this program, under `iterlim`, the limit of pivots in the solve's settings, and by
+  -- the pivot rule of the solver that these settings choose. `rules` has the rule of each solver,
+  -- and `limit` is the limit of the size of numbers.
   pub record IsValidSolve (lp : Lp F) (place : ℕ) (settings : Settings) : Type 0 where
     pub formed : IsWellFormed value lp
     pub given : Answer F

@@ -24,11 +24,11 @@ ghost use Rattle.gms_exec.specs.Elements.{AreElements, IsNot, program_elements, 
 
 use gq_field::ExactField;
 
-/// What is read after an assignment of values or membership to elements of one name. Let each
-/// element to which something is assigned have as many labels as the name has positions. Then each
-/// element of the name has the value, membership or attribute that was last assigned to it, or the
-/// old one if nothing was assigned to it. The settings stay as they were, and so does each name of
-/// another symbol; an alias is a name of its set.
+/// What is read after an assignment `all` of values or memberships to elements of one name. Let
+/// each element in `all` have as many labels as the name has positions. Then each element of the
+/// name has the value, membership or attributes that were last assigned to it, or else its old
+/// ones. The settings stay, and so do the data of each name of another symbol; an alias is a name
+/// of its set's symbol.
 pub fn assignment_laws()
     ensures values { (state : State) (name : ℕ) (all : AllGiven) (entries : Entries Extended) (t : List ℕ) →
         base_of state name < length state.symbols →
@@ -53,9 +53,9 @@ pub fn assignment_laws()
         (after_given kind name all state).settings ≡ state.settings }
 {}
 
-/// An assignment assigns to no element twice if its left side is as in an accepted program: each
-/// set among the indices has one dimension, and each amount of a lag is a number or a scalar. So no
-/// assigned value overwrites another, and the order of the elements has no effect (GAMS User's
+/// An assignment without a fault assigns to no element twice if its left side is as in an accepted
+/// program: the sets among the indices have one dimension, and each amount of a lag is a number or
+/// a name without suffix and indices. So the order of the elements has no effect (GAMS User's
 /// Guide, "Data Manipulations with Parameters", indexed assignments).
 pub fn once_laws<F: ExactField>()
     ensures { (state : State) (at : Place) (binding : Pairs) (target : Target F) (condition : Option (Tree F)) (right_at : Place)
@@ -65,14 +65,14 @@ pub fn once_laws<F: ExactField>()
         IsOnce given }
 {}
 
-/// What is read after a solve whose columns and rows are elements of the state. After an optimum,
-/// the element of a column has the column's level, and as marginal its reduced cost; the element of
-/// a row has the row's level, and as marginal its dual value. After an unbounded end, or one that
-/// was interrupted in phase 2, these elements have their levels, and marginals 0. After any other
-/// end (infeasible, interrupted before phase 2, or a number beyond the field's limit) levels and
-/// marginals stay. The model has the two statuses of the end, its `modelstat` and its `solvestat`.
-/// All other elements and names stay as they were, and so do the settings (GAMS User's Guide,
-/// "Model and Solve Statements").
+/// What is read after a solve whose columns and rows are distinct elements of the state. After an
+/// optimum, the element of a column has the column's level, and as marginal its reduced cost; the
+/// element of a row has the row's level, and as marginal its dual value. After an unbounded end, or
+/// one that was interrupted in phase 2, these elements have the end's levels, and marginals 0.
+/// After any other end (infeasible, interrupted before phase 2, or a number beyond the field's
+/// limit) levels and marginals stay. The solved model has the `modelstat` and the `solvestat` of
+/// the end. All other elements and names stay, and so do the settings (GAMS User's Guide, "Model
+/// and Solve Statements").
 pub fn solve_laws()
     ensures optimal_column { (state : State) (model : ℕ) (lp : Lp Number) (levels row_levels duals reduced : List Number) (j : ℕ) (key : Key) (x d : Number) →
         AreElements state (program_elements lp) →

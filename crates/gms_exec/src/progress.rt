@@ -6,7 +6,7 @@ use lp_core::Answer;
 
 /// How far the run of a program has come: its state, answers and events so far.
 pub struct Progress {
-    /// The state that the run has reached: the data of all names, and the settings.
+    /// The state that the run has reached: the data of all names and the settings.
     pub store: Store<Frac>,
     /// The answers of the solves that the run has executed, in the order of the solves.
     pub answers: Vec<Answer<Frac>>,

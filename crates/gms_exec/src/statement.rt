@@ -34,24 +34,23 @@ use lp_core::Answer;
 use lp_slot::LpSolver;
 use std::alloc::Global;
 
-/// Executes the statement `s` of a checked program in a run, under the binding `b`, the labels that
-/// the sets of the loops around it have. The events that the statement shows and the answers of its
-/// solves are appended to those of the run, and the state becomes the state after the statement. A
-/// loop goes over the elements that its control has when the loop begins.
+/// Executes the statement `s` of a checked program in a run. The binding `b` has the labels of the
+/// sets that the loops around `s` control. The events of the statement and the answers of its
+/// solves are appended to those of the run, and the state becomes that after the statement. A loop
+/// goes over the elements that its control has when the loop begins.
 ///
-/// There must be fewer than 2^32 solvers. The state must be one in which the statements of the
-/// program can be executed: the settings have at most 8 decimals and choose one of the solvers, if
-/// there are any, and the indices of each equation's definition are labels and sets of one
-/// dimension without lags. Unless memory runs out, this still holds afterwards, and each solve that
-/// was shown is answered by its solver.
+/// There must be fewer than 2^32 solvers. The statements of the program must be executable in the
+/// state: its settings have at most 8 decimals and choose one of the solvers, if there are any, and
+/// the indices of each equation's definition are labels and sets of one dimension, without lags.
+/// Unless memory runs out, they are executable afterwards too, and each appended solve has an
+/// answer by its solver's rule.
 ///
 /// A stop is the first fault of the statement. The events and answers before the fault are
-/// appended, and the state is the one that the statement had reached. The kinds of stop are those
-/// of the statement's expressions, domains and rows; `DomainSize` also of a display of bounds over
-/// more than 16,777,216 elements; `NoSolver` at a solve without a solver; and `Aborted` at an
-/// `abort` that has no condition or whose condition holds, and whose items have no fault. After out
-/// of memory the store of the run must not be used again. GAMS User's Guide, "GAMS Programs",
-/// "Programming Flow Control Features".
+/// appended, and the state is that at the fault. The kinds of stop are those of the statement's
+/// expressions, domains and rows; `DomainSize` also if a bound over more than 16,777,216 elements
+/// is shown; `NoSolver` at a solve without a solver; and `Aborted` at an `abort` whose condition,
+/// if any, holds and whose items have no fault. After out of memory the store of the run must not
+/// be used again. GAMS User's Guide, "GAMS Programs", "Programming Flow Control Features".
 pub fn step(
     alloc: Global,
     run: &mut Progress,

@@ -28,16 +28,15 @@ abbrev pub KeepsPlaces : List (List ℕ) → List (List ℕ) → Type 0
 KeepsPlaces texts later = (text : List ℕ) (n : ℕ) → place_of texts text ≡ Some n → place_of later text ≡ Some n
 
 -- The longest part of the nonterminal n that begins the tokens was read, from the state `before` to
--- the state `after`; `rest` follows it, and `limit` is the limit of the size of numbers. `part` is
--- what its derivation means by the names and labels of `after`, and by any later tables that keep
--- their positions. `Means names labels tree part` states that `part` is what the derivation `tree`
--- means by these tables.
+-- the state `after`; `tree` is its derivation, `rest` follows it, and `limit` is the limit of the
+-- size of numbers. `part` is what `tree` means by the tables of names and labels of `after`, and by
+-- any tables in which these keep their positions: `Means names labels tree part` states this.
 pub record IsRead {T : Type 0} (limit : ℕ) (source : List ℕ) (n : Nonterminal) (Means : List (List ℕ) → List (List ℕ) → DerivationTree (Terminal × Token) → T → Type 0) (before after : ExpressionState) (tokens rest : List (Terminal × Token)) (part : T) : Type 0 where
   pub tree : DerivationTree (Terminal × Token)
   pub is_part : IsPart limit source n before after tokens rest tree
   pub means : (names labels : List (List ℕ)) → KeepsPlaces after.names names → KeepsPlaces after.labels labels → Means names labels tree part
 
--- the result in place of a part of the nonterminal n, read from the state `before` on, is right: a
+-- the error in place of a part of the nonterminal n, read from the state `before` on, is right: a
 -- fault is the part's first one, and out of memory makes no claim
 abbrev pub IsSyntaxRefusal : ℕ → List ℕ → Nonterminal → ExpressionState → List (Terminal × Token) → SyntaxFaultOrMemory → Type 0
 IsSyntaxRefusal limit source n before tokens (Fault fault) = IsRefusedPart limit source n before tokens fault

@@ -79,9 +79,9 @@ abbrev pub unexpected_token : List ℕ → List (Terminal × Token) → SyntaxFa
 unexpected_token source rest = record { error = unexpected_error rest; at = next_place source rest }
 
 -- A token that the grammar expects has a fault: it opens a parenthesis while 100 are open; it is a
--- number out of range, that is, neither m times 10^e within `limit`, the limit of the size of
--- numbers, nor m over 10^e with m and 10^e within it (`FitsLiteral`); or it is a new name or label
--- for which the table is full.
+-- number out of range, that is, neither an integer within `limit`, the limit of the size of
+-- numbers, nor an integer over a power of ten that are both within `limit` (`FitsLiteral`); or it
+-- is a new name or label for which the table is full.
 pub data IsFaultyInExpression (limit : ℕ) (source : List ℕ) (read_state : ExpressionState) (token : Terminal × Token) : SyntaxFault → Type 0 where
   deep : token.0 ≡ terminal.LeftParen → 100 ≤ read_state.open_count → IsFaultyInExpression limit source read_state token (record { error = Depth; at = token.1.at })
   out_of_range : token.0 ≡ terminal.Number → ((x : Number) → MeansNumber (token_text source token.1) x → FitsLiteral limit x → ⊥) →
@@ -114,9 +114,9 @@ module _ (limit : ℕ) (source : List ℕ) where
     pub leaves : following ≡ state_after_tokens source read_state (yield tree) (kind_of rest)
 
   -- `fault` is the first fault of the tokens of `source`, read as the nonterminal n from the state
-  -- `read_state`, by `syntax_rule` under `limit`, the limit of the size of numbers. Take their
-  -- longest prefix that begins something n derives. Either the fault is that of its first faulty
-  -- token; or it has none, n does not derive it, and the fault is that of what follows it, which is
-  -- unexpected: the next token, or without one the end of the source.
+  -- `read_state`, by `syntax_rule` under `limit`, the limit of the size of numbers. Let P be the
+  -- longest prefix of the tokens that begins something n derives. The fault is that of the first
+  -- faulty token of P; or P has no faulty token, n does not derive P, and the fault is that of the
+  -- unexpected next token, or without one of the end of the source.
   abbrev pub IsRefusedPart : Nonterminal → ExpressionState → List (Terminal × Token) → SyntaxFault → Type 0
   IsRefusedPart n read_state tokens fault = rules.IsRefusedByRule syntax_rule (limit, source) (λ prefix rest. Derives productions (the n) prefix → ⊥) n read_state tokens fault

@@ -24,8 +24,8 @@ expression_words =
     (RelationWord, codes "lt" ∷ codes "le" ∷ codes "eq" ∷ codes "ne" ∷ codes "ge" ∷ codes "gt" ∷ []) ∷
     []
 
--- the reserved words of other parts of programs, and those that the language leaves out, by their
--- terminals
+-- the reserved words that neither begin a statement nor occur in expressions, and the words that
+-- the language leaves out, each list with its terminal
 abbrev pub other_words : List Words
 other_words =
     (All, codes "all" ∷ []) ∷

@@ -63,7 +63,7 @@ impl SyntaxError {
 pub struct SyntaxFault {
     /// Which syntax error it is.
     pub error: SyntaxError,
-    /// The place of the token with the error, by line and column.
+    /// Where the token with the error begins, or the source ends.
     pub at: Place,
 }
 

@@ -64,17 +64,18 @@ impl Tables {
 }
 
 /// The expression that begins at the token with the index `from`, and the index of the token after
-/// it: the expression is read on as long as the next token continues it.
+/// the expression. The expression is read on while the next token can continue it.
 ///
-/// `tokens` are those of the source. Before the token at `from` there are `unclosed` open
-/// parentheses, at most 100. `names` and `labels` are the tables of the program: new names and
-/// labels of the expression are appended, and the others stay. On failure some may be appended too.
+/// `tokens` are those of `source`. Before `from` there are `unclosed` open parentheses, at most
+/// 100. New names and labels of the expression are appended to the program's tables `names` and
+/// `labels`, on failure perhaps only some.
 ///
-/// The fault is the first that the tokens have in their order: a token that cannot come next in an
-/// expression that is not complete, as `;` in `a + ;` (`Expected`, or `NotInProfile` for a word
-/// that the language leaves out), a parenthesis that is opened while 100 are open (`Depth`), a
-/// number out of range (`Number`), a new name or label for which the table is full
-/// (`TooManyLabels`). `Memory` means out of memory.
+/// The fault is the first in the order of the tokens: a token that cannot come next while the
+/// expression is incomplete, as `;` in `a + ;` (`Expected`, or `NotInProfile` for a word of GAMS
+/// that this compiler does not read, such as `eps`), a parenthesis that opens while 100 are open
+/// (`Depth`), a number m/10^e, with the least e, of which m or 10^e is above `F.limit` (`Number`),
+/// or a new name or label while its table has 65,536 (`TooManyLabels`). `Memory` means out of
+/// memory.
 pub fn expression<F: ExactField>(
     alloc: Global,
     source: &[u8],
@@ -107,10 +108,11 @@ pub fn expression<F: ExactField>(
     read
 }
 
-/// The longest operand that begins at the token with the index `from`, and the index of the token
-/// after the operand. An operand is a constant, a reference, a call, a fold, or an expression in
-/// parentheses. The tokens, `unclosed`, the fault and the final names and labels are as in
-/// [`expression`].
+/// The operand that begins at `tokens[from]`, read on while the next token can continue it, and the
+/// index of the token after the operand. An operand is a constant, a reference, a call, a fold, or
+/// an expression in parentheses. Before `tokens[from]`, `unclosed` parentheses are open, at most
+/// 100. New names and labels are appended to `names` and `labels`, on error perhaps only some. The
+/// error is the first fault, by token, of the kinds that [`expression`] lists, or out of memory.
 pub fn primary<F: ExactField>(
     alloc: Global,
     source: &[u8],
@@ -142,9 +144,11 @@ pub fn primary<F: ExactField>(
     read
 }
 
-/// The longest control that begins at the token with the index `from`, and the index of the token
-/// after the control. A control has the sets of a fold or a loop, perhaps with a condition. The
-/// tokens, `unclosed`, the fault and the final names and labels are as in [`expression`].
+/// The control that begins at `tokens[from]`, read on while the next token can continue it, and the
+/// index of the token after the control. A control has the sets of a fold or a loop, perhaps with a
+/// condition. Before `tokens[from]`, `unclosed` parentheses are open, at most 100. New names and
+/// labels are appended to `names` and `labels`, on error perhaps only some. The error is the first
+/// fault, by token, of the kinds that [`expression`] lists, or out of memory.
 pub fn control<F: ExactField>(
     alloc: Global,
     source: &[u8],
@@ -176,10 +180,11 @@ pub fn control<F: ExactField>(
     read
 }
 
-/// The longest target that begins at the token with the index `from`, and the index of the token
-/// after the target. A target is a name, perhaps with a suffix and indices, as on the left of an
-/// assignment. The tokens, `unclosed`, the fault and the final names and labels are as in
-/// [`expression`].
+/// The target that begins at `tokens[from]`, read on while the next token can continue it, and the
+/// index of the token after the target. A target is a name, perhaps with a suffix and indices, as
+/// on the left of an assignment. Before `tokens[from]`, `unclosed` parentheses are open, at most
+/// 100. New names and labels are appended to `names` and `labels`, on error perhaps only some. The
+/// error is the first fault, by token, of the kinds that [`expression`] lists, or out of memory.
 pub fn target<F: ExactField>(
     alloc: Global,
     source: &[u8],

@@ -20,7 +20,7 @@ use gms_labels::{Labels, Place};
 use gms_lex::Token;
 use std::alloc::Global;
 
-/// The greatest number of parentheses that may be open at once.
+/// The greatest number of parentheses that may be open at once in a source, whatever they enclose.
 pub const MOST_OPEN: u32 = 100;
 
 /// A part, and the index of the token after it.

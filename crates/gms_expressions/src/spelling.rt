@@ -6,10 +6,9 @@ ghost use Rattle.gms_expressions.specs.ExpressionTrees.{is_word, suffix_of, fold
 use gms_ast::{FoldOp, Function, LagOp, RelOp, Suffix};
 use gms_grammar::{Kind, Sym};
 
-/// The suffix that a word after a dot names, in capital or small letters (GAMS User's Guide,
-/// "Variables").
+/// The suffix that a word after a dot names, letter case ignored (GAMS User's Guide, "Variables").
 ///
-/// A word that is none of `lo`, `up`, `l`, `m`, `fx` and `modelstat` gives `SolveStat`, the one
+/// Any word other than `lo`, `up`, `l`, `m`, `fx` and `modelstat` gives `SolveStat`, the one
 /// remaining suffix.
 #[tactic(auto, unfolding(crate::specs::ExpressionTrees::suffix_of))]
 pub fn suffix_of(word: &[u8]) -> Suffix

@@ -60,8 +60,9 @@ abbrev pub table_fault_at : TableError → Place → Place → SourceFaultOrMemo
 table_fault_at table.NoHeading at name = fault_at (Table table.NoHeading) name
 table_fault_at error at name = fault_at (error_of_table error) at
 
--- the result in place of a program, given why a table has no entries; `name` is the place of the
--- table's name
+-- the result in place of a program, given why a table has no entries: out of memory, or the fault
+-- as a source fault, which is at the place `name` of the table's name if the fault is NoHeading,
+-- else at the fault's own place
 abbrev pub fault_of_table : TableFaultOrMemory → Place → SourceFaultOrMemory
 fault_of_table tabled.Memory name = Memory
 fault_of_table (tabled.Fault fault) name = table_fault_at fault.error fault.at name

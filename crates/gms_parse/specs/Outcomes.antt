@@ -57,11 +57,11 @@ module _ (limit : ℕ) (source : List ℕ) where
   abbrev pub HaveItems : List (List ℕ) → List KindedToken → Type 0
   HaveItems labels tokens = (lines : List KindedToken) → IsTableOf tokens lines → AreTableItems limit source labels lines (items_given source labels lines)
 
-  -- The tokens are the program with these names, labels and statements. They derive a program up to
-  -- the end, and none has a fault; `limit` is the limit of the size of numbers. The names and
-  -- labels are those of the reader's state after the tokens. Each table has items. The statements
-  -- are those that the derivation means: there a number is the one that its text means, and a table
-  -- has the items that its lines give.
+  -- The grammar derives the tokens before the last, the end, as a program. None of them has a
+  -- fault; `limit` is the limit of the size of numbers. `names` and `labels` are those of the
+  -- reader's state after them. Each table has items. `statements` are those that the derivation
+  -- means: each number is the one that its text means, and each table has the items that its lines
+  -- give.
   pub record IsProgramOf (tokens : List KindedToken) (names labels : List (List ℕ)) (statements : Statements Number) : Type 0 where
     pub tree : DerivationTree KindedToken
     pub end : Token

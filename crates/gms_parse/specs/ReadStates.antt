@@ -107,11 +107,11 @@ module _ (source : List ℕ) where
   abbrev pub range_texts : List ℕ → List ℕ → List (List ℕ)
   range_texts from to = if is_range from to then members from to else []
 
-  -- The labels that the token of a label in a list enters in the table of labels, which may have
-  -- them already. If the token is the last label of a range, the option is the first, and these are
-  -- the members of the range (none if it is invalid). Otherwise the option is None, and `ahead` is
-  -- the kind of the next token: before a `*`, which makes the token the first label of a range,
-  -- there are none, else there is the label itself.
+  -- The labels that the token of a label in a list enters in the table of labels, unless the table
+  -- has them. If the token ends a range, the option is the first label of the range, and these are
+  -- its members (none if the range is invalid). Otherwise the option is None, and `ahead` is the
+  -- kind of the next token: before a `*`, that is, if the token begins a range, there are none,
+  -- else there is the label itself.
   abbrev pub list_labels : Option Token → Terminal → Token → List (List ℕ)
   list_labels (Some first) ahead token = range_texts (unquoted (token_text source first)) (unquoted (token_text source token))
   list_labels None ahead token = if is terminal.Star ahead then [] else unquoted (token_text source token) ∷ []
@@ -123,8 +123,8 @@ module _ (source : List ℕ) where
 
   -- the labels that a token, read in this state, adds to the table of labels, unless the table has
   -- them, if one of kind `ahead` follows it: that of a quoted text that is an index; in a list that
-  -- of a label, or those of a range at its end; with the last line of a table all labels of the
-  -- table; otherwise none
+  -- of a label outside a range, or with the last label of a range those of the range; with the last
+  -- line of a table all labels of the table; otherwise none
   abbrev pub new_labels : ReaderState → KindedToken → Terminal → List (List ℕ)
   new_labels read_state token ahead =
       if is_index read_state token.0 then unquoted (token_text source token.1) ∷ [] else (if is terminal.Label token.0 then list_labels (range_start read_state.before) ahead token.1 else (if is terminal.TableLine token.0 && not (is terminal.TableLine ahead) then labels_of_lines source (lines_with read_state.before token) else []))
@@ -158,9 +158,9 @@ module _ (limit : ℕ) (source : List ℕ) where
   IsOutOfRange token = (x : Number) → MeansNumber (token_text source token) x → FitsLiteral limit x → ⊥
 
   -- A token that the grammar expects has this fault, if it is read in this state and one of kind
-  -- `ahead` follows it: it opens a parenthesis while 100 are open; it is a number out of range; it
-  -- is a new name after 65,536 others, or enters a new label after as many others; it is the last
-  -- line of a table that has a fault; or it ends the head of a table without lines.
+  -- `ahead` follows: it opens a parenthesis while 100 are open; it is a number out of range; it is
+  -- a new name after 65,536 others, or enters a new label after 65,536 others; it is the last line
+  -- of a table with this fault; or is the `)` of a table without lines.
   pub data IsFaulty (read_state : ReaderState) (token : KindedToken) (ahead : Terminal) : SourceFault → Type 0 where
     deep : token.0 ≡ terminal.LeftParen → 100 ≤ read_state.open_count → IsFaulty read_state token ahead (record { error = Syntax Depth; at = token.1.at })
     out_of_range : token.0 ≡ terminal.Number → IsOutOfRange token.1 → IsFaulty read_state token ahead (record { error = Syntax OutOfRange; at = token.1.at })

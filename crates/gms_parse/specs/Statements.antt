@@ -78,8 +78,8 @@ module _ (source : List ℕ) (names labels : List (List ℕ)) where
   abbrev pub assigned : Target Number → Option (trees.Tree Number) → DerivationTree (Terminal × Token) → Act Number
   assigned target condition right_side = assigns target condition (place_in right_side) (expression source names labels right_side)
 
-  -- the assignment to the target, by what follows the target: a condition, `=` and the right side;
-  -- a tree of another form gives an empty display
+  -- the assignment to the target, by what follows the target: a condition, if there is one, `=` and
+  -- the right side; a tree of another form gives an empty display
   abbrev pub after_target : Target Number → DerivationTree (Terminal × Token) → Act Number
   after_target target (node (pair condition tree)) = assigned target (condition_in condition) (second_in tree)
   after_target target _ = displays []

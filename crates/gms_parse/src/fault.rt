@@ -60,8 +60,8 @@ pub struct SourceFault {
     /// The error, without its place.
     pub error: SourceError,
     /// The place of the error: the start of a source that is too long; the name of a table without
-    /// headings; else the byte, the token or the word that has the error, or the end of the source
-    /// if more is required.
+    /// headings; the end of an incomplete source; else the byte, the token or the word with the
+    /// error.
     pub at: Place,
 }
 

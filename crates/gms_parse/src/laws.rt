@@ -3,12 +3,12 @@ ghost use Rattle.std.specs.Prelude.{◌≡◌, ℕ, List};
 ghost use Rattle.gms_parse.specs.declared.fault.SourceFault.{SourceFault};
 ghost use Rattle.gms_parse.specs.Outcomes.{ProgramView, HasProgram, IsSourceFault};
 
-/// Each source has either exactly one program or exactly one first fault (GAMS User's Guide, "GAMS
-/// Programs").
+/// Under a limit of the size of numbers, each source has exactly one program or exactly one first
+/// fault, never both (GAMS User's Guide, "GAMS Programs").
 ///
-/// A program is compared by its view: its names, its labels, and the trees of its statements,
-/// tables included. So two programs of one source, with the same limit of the size of numbers,
-/// differ only in where their parts are stored, and in the type of their numbers.
+/// Programs are compared by views: their names, labels, and trees of statements and tables. So two
+/// programs of one source under one limit differ only in where their parts are stored, and in the
+/// type of their numbers.
 pub fn source_laws()
     ensures one_program { (limit : ℕ) (source : List ℕ) (one other : ProgramView) →
         HasProgram limit source one → HasProgram limit source other → one ≡ other }

@@ -16,17 +16,20 @@ const START: Place = Place { line: 1, column: 1 };
 /// The program of a source, with its names and labels numbered in the order of the source, or its
 /// first fault (GAMS User's Guide, "GAMS Programs").
 ///
-/// A source of over 1,048,576 bytes is `TooLong`, at its start. Else its first lexical fault comes
-/// before all others. Else the fault is the first that its tokens have in their order: a token that
-/// cannot occur here, though everything before it could begin a program (`Expected`, or
-/// `NotInProfile` for a word of a statement or a value that the language leaves out); the end of
-/// the source if more is required (`Expected`); a parenthesis that is opened while 100 are open
-/// (`Depth`); a number out of range (`Number`), that is, a whole number over `F.limit`, or a
-/// fraction m/10^e, where m does not end in 0, with m or 10^e over it; the 65,537th name, or the
-/// 65,537th label (`TooManyLabels`; of a range, at its upper label); a fault in a table, at the
-/// word that has it (`NoColumn`, `TwoColumns`, `RepeatedEntry`, `BadRow`); a table without
-/// headings, found where it ends and reported at its name (`NoHeading`). `Memory` means out of
-/// memory.
+/// The fault of a source of over 1,048,576 bytes is `TooLong`, at its start. Otherwise it is the
+/// first lexical fault, if any. Otherwise it is the first of these in the order of the tokens:
+/// - a token that cannot come next, whatever other fault it has, though those before it could begin
+///   a program (`Expected`, or `NotInProfile` for a GAMS word that this compiler does not read,
+///   such as `if`), or the end of an incomplete program (`Expected`);
+/// - a parenthesis that opens while 100 are open (`Depth`);
+/// - an integer above `F.limit`, or a fraction m/10^e, where m does not end in 0, with m or 10^e
+///   above `F.limit` (`Number`);
+/// - the 65,537th name, or the 65,537th label (`TooManyLabels`; in a range, at its upper label);
+/// - a fault in a table, at the word that has it (`NoColumn`, `TwoColumns`, `RepeatedEntry`,
+///   `BadRow`);
+/// - the end of a table without headings, reported at the table's name (`NoHeading`).
+///
+/// `Memory` means out of memory.
 pub fn parse<F: ExactField>(alloc: Global, source: &[u8]) -> Result<Program<F>, SourceFaultOrMemory>
     ensures { MatchResult result (λ program. IsProgram F.limit source.now F.value program) (λ e. IsSourceRefusal F.limit source.now e) }
 {

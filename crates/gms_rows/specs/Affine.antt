@@ -91,16 +91,16 @@ joined_forms join so_far [] = Ok (unwrap_or so_far zero_form)
 joined_forms join so_far (part ∷ parts) = part.1 and_then λ form. with_next join part.0 so_far form and_then λ next. joined_forms join (Some next) parts
 
 -- the constant form of the number to which `step` joins these marked values from the left; None
--- without values; or the first fault, which is Undefined at the first operand, with the binding of
--- sets to labels, if the joined value is no number
+-- without values; or the first fault: that of a value or a step or, if there is none but the joined
+-- value is no number, Undefined at the place of the first value, with the binding of sets to labels
 abbrev pub prefix : Pairs → ValueStep → Marked → Answer (Option Form)
 prefix binding step [] = Ok None
 prefix binding step (first ∷ rest) = chain step (first ∷ rest) and_then λ x. form_of (part_place first.0) binding x and_then λ form. Ok (Some form)
 
 -- the form of a sum or a product: the first `count` operands, which have no variables, are joined
--- as values by `step`, and each later one by `join`, a step on forms; or the first fault. `values`
--- and `forms` have the values and the forms of all operands, each with its mark. The fault
--- Undefined of the joined values has the binding `binding` of sets to labels.
+-- as values by `step`, then each later one by `join`, a step on forms; or the first fault. `values`
+-- and `forms` have those of all operands, each with its mark. If the value of the first `count` is
+-- no number, the fault is Undefined, with the binding `binding` of sets to labels.
 abbrev pub chained : Pairs → ValueStep → Join → ℕ → Marked → List (Mark × Answer Form) → Answer Form
 chained binding step join count values forms = prefix binding step (take count values) and_then λ so_far. joined_forms join so_far (drop count forms)
 
@@ -109,16 +109,18 @@ module _ (limit : ℕ) (binding : Pairs) where
   abbrev pub plus : Join
   plus mark left right = sum_of_forms limit (part_place mark) binding (is_inverse mark) left right
 
-  -- the product of the form so far and the next factor's, one of which is constant; or, if the
-  -- factor divides, the form so far over the constant of the factor's form
+  -- the product of `left`, the form so far, and `right`, the next factor's: `left` times the
+  -- constant of `right` if `right` is constant, otherwise `right` times the constant of `left`. If
+  -- the factor divides, `left` over the constant of `right`. The fault is Divide if this divisor is
+  -- 0, and Limit if a result exceeds the limit of the size of numbers
   abbrev pub times : Join
   times mark left right =
       if is_inverse mark then quotient_of limit (part_place mark) binding left right.constant else product_of_forms limit (part_place mark) binding left right
 
 -- ---- expressions
 
--- the form of an element of a variable; 0 if there is no tuple, as a lag goes past the ends of its
--- set
+-- the form of the element of a variable at a tuple; the form 0 without a tuple (None), for example
+-- because a lead or a lag in the indices reaches no label
 abbrev pub element_form : ℕ → Option (List ℕ) → Form
 element_form name None = zero_form
 element_form name (Some t) = column_form (record { symbol = name; tuple = t })
@@ -131,10 +133,10 @@ module _ {F : Type 0} (number_of : F → Number) (limit : ℕ) (state : State) w
   form_of_constant at binding e = value number_of limit state binding e and_then form_of at binding
 
   abbrev mutual
-    -- the form of an expression that contains a variable without suffix, and whose first
-    -- character is at this place, under a binding of sets to labels; or the first fault. Each fold
-    -- is taken as a sum (with variables in their bodies the others are not linear), and an operand
-    -- under a guard that does not hold as the form 0.
+    -- the linear form of an expression that contains a variable without suffix and begins at this
+    -- place, under a binding of sets to labels; or the first fault. Each fold is read as a sum: any
+    -- other fold is not linear if its body has variables. An operand under a guard that does not
+    -- hold has the form 0.
     pub linear : Place → Pairs → tree.Tree F → Answer Form
     linear at binding (tree.reference place name suffix indices) =
         in_order (labels number_of limit state binding indices) and_then λ those. Ok (element_form name (tuple_of those))

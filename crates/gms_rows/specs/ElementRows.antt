@@ -43,15 +43,16 @@ module _ {F : Type 0} (number_of : F → Number) (limit : ℕ) (state : State) w
   holds_for binding None = Ok true
   holds_for binding (Some condition) = holds number_of limit state binding condition
 
-  -- the tuple of a definition's row at an element of its sets; None if one of the indices has no
-  -- label; or the first fault
+  -- the tuple of a definition's row at an element of its sets; None if an index has no label, for
+  -- example because its lag goes past an end of its set, or if there are more than 10 indices; or
+  -- the first fault
   abbrev pub tuple_at : Definition F → List ℕ → Answer (Option (List ℕ))
   tuple_at d element = in_order (labels number_of limit state (bound_to d element) d.indices) and_then λ those. Ok (tuple_of those)
 
   -- A row of a definition belongs to this element: the element is one of the product of the
-  -- definition's sets, the condition holds for it, and the row has the definition's equation and
-  -- sense, the tuple of the indices at this element, and the form of the left side less the right
-  -- one at this element (`row_form`).
+  -- definition's sets, the definition's condition holds for it, and the row has the definition's
+  -- equation and sense, the tuple of the indices at this element, and the form of the left side
+  -- less the right one (`row_form`).
   pub record IsRowOf (d : Definition F) (row : FormRow) (element : List ℕ) : Type 0 where
     pub there : has (elements state (sets_of_definition d)) element ≡ true
     pub holds : holds_for (bound_to d element) d.condition ≡ Ok true

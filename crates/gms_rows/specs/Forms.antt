@@ -33,7 +33,7 @@ abbrev pub form_in : {F : Type 0} → (F → Number) → Affine F → Form
 form_in value form =
     record { constant = value form.constant; numbers = finite.from_entries {R = key_cmp} (keyed value form.keys form.numbers) }
 
--- the form of a constant, without elements
+-- the form that is this constant: it has no element of a variable
 abbrev pub constant_form : Number → Form
 constant_form x = record { constant = x; numbers = finite.empty }
 

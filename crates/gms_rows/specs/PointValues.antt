@@ -73,14 +73,14 @@ module _ (binding : Pairs) where
   exact_join Smin at x y = Ok (lesser x y)
   exact_join Smax at x y = Ok (greater x y)
 
-  -- the step of a fold that joins the value so far, x, with the answer for the next body, which may
-  -- be a fault
+  -- the step of a fold that joins the value so far, x, with the value of the next body
+  -- (`exact_join`); if the body has a fault, this fault is the result
   abbrev pub exact_fold_step : FoldOp → Place → ValueStep
   exact_fold_step op at mark x answer = answer and_then λ y. exact_join op at x y
 
-  -- the values of a fold's bodies, joined in sequence, from 0 for Sum and 1 for Prod (`start_of`);
-  -- without a body, that number, or for Smin and Smax the fault EmptyExtreme at this place; or the
-  -- first fault
+  -- the result of a fold: the values of its bodies, joined in order by its operation `op`, from 0
+  -- for Sum and 1 for Prod (`start_of`); without a body, that number, or for Smin and Smax the
+  -- fault EmptyExtreme at this place; or the first fault
   abbrev pub exact_folded : FoldOp → Place → Marked → Answer Extended
   exact_folded op at bodies =
       nodes.joined (exact_fold_step op at) (Err (faulted EmptyExtreme at binding nothing nothing)) (start_of op) bodies
@@ -149,10 +149,10 @@ module _ {F : Type 0} (state : State) where
       if has_variables state part then not (some_has_variables state rest) else are_later_factors rest
 
   abbrev mutual
-    -- whether an expression is linear in the variables: in a product at most one factor has
-    -- variables, and no divisor after the first factor has any; of folds, only the body of a sum
-    -- may have them; each operand of a sum or a product is marked as a term or a factor
-    -- (`is_signed`). An expression of any other form is linear.
+    -- whether an expression is linear in the variables: in a product at most one factor has any,
+    -- and it does not divide unless it is the first; of folds, only the body of a sum has any, and
+    -- then it is linear. Each operand is linear, in a sum or product marked as a term or factor
+    -- (`is_signed`). All else is linear.
     pub is_linear : tree.Tree F → Bool
     is_linear (tree.fold_over at op control body) = not (has_variables state body) || (is_sum_fold op && is_linear body)
     is_linear (tree.negated operand) = is_linear operand
@@ -161,8 +161,8 @@ module _ {F : Type 0} (state : State) where
     is_linear (tree.guarded operand guards) = is_linear operand
     is_linear other = true
 
-    -- whether each term of a sum or factor of a product is linear in the variables and has the mark
-    -- of a term or a factor (`is_signed`)
+    -- whether each operand of a sum or a product is linear in the variables and has the mark of a
+    -- term, plus or minus, or of a factor, times or divided by (`is_signed`)
     pub are_linear : tree.Parts F → Bool
     are_linear tree.no_part = true
     are_linear (tree.part mark part rest) = is_signed mark && (is_linear part && are_linear rest)

@@ -18,7 +18,7 @@ use Rattle.lp_form.specs.declared.key.Key.{Key}
 use Rattle.lp_form.specs.Keys.{key_cmp, same_key}
 use Rattle.gms_rows.specs.Rows.{FormRow, rows_of_model}
 
--- these keys in order, without repetition
+-- these keys in ascending order, without repetition
 abbrev pub ordered_keys : List Key → List Key
 ordered_keys keys = finite.keys (finite.from_entries {R = key_cmp} (map (λ key. (key, true)) keys))
 
@@ -57,7 +57,7 @@ too_many kind at count =
     record { kind = kind; at = at; binding = []; left = nothing; right = nothing; count = min count most_counted }
 
 -- the linear program, or a fault at the place of the solve: TooManyRows if the standard form has
--- over 1,500 rows, else TooManyColumns if it has over 3,000 variables
+-- over 1,500 rows, else TooManyColumns if it has over 3,000 variables, slacks not counted
 abbrev pub sized_program : Place → Lp Number → Answer (Lp Number)
 sized_program at lp =
     if nat_lt 1500 (standard_rows lp) then Err (too_many TooManyRows at (standard_rows lp)) else
@@ -65,9 +65,9 @@ sized_program at lp =
     Ok lp
 
 -- The linear program of a solve at a place, in a state, to maximize if `maximize` is true, else to
--- minimize: the rows of the model, and the objective, a variable without indices; or the first
--- fault, also that of a size that is too large (`sized_program`). `number_of` gives the number that
--- a value of `F` means, and `limit` is the limit of the size of numbers.
+-- minimize: the rows of the model, and the objective, a variable without indices. Or the first
+-- fault; the last sought is too many rows or columns (`sized_program`). `number_of` gives the
+-- number that a value of `F` means; `limit` bounds the size of numbers.
 abbrev pub program_lp : {F : Type 0} → (F → Number) → ℕ → State → List (Stmt F) → ℕ → ℕ → Bool → Place → Answer (Lp Number)
 program_lp number_of limit state statements model objective maximize at =
     rows_of_model number_of limit state statements model and_then λ rows. sized_program at (program_of state rows (record { symbol = objective; tuple = [] }) maximize)

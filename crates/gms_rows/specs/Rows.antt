@@ -52,8 +52,9 @@ pub record Definition (F : Type 0) : Type 0 where
 abbrev pub listed_equations : List ℕ → ModelDecl → List ℕ
 listed_equations declared model = if model.all then declared else distinct_numbers (map (λ (equation : Named). equation.name) model.equations)
 
--- the equations of the first of these models that has this name, where `declared` has the equations
--- that are declared before; None if no model has the name
+-- the equations of the first of these models that has this name: for `/all/` those in `declared`,
+-- which are declared before the models, else those that the model lists. None if no model has the
+-- name
 abbrev pub found : List ℕ → ℕ → List ModelDecl → Option (List ℕ)
 found declared name [] = None
 found declared name (model ∷ models) = if model.named.name == name then Some (listed_equations declared model) else found declared name models
@@ -107,7 +108,9 @@ module _ {F : Type 0} where
         | None ↦ equations_from (declared ++ equations_declared_by s.act) name statements
       ]
 
-  -- the equations of a model, in order, by its first declaration in the program
+  -- the distinct equations of the model `name`, by the first declaration of the model: for `/all/`
+  -- the equations that are declared before it, in the order of their declarations, else those that
+  -- it lists, in the order of the list; none if no statement declares the model
   abbrev pub equations_of : List (Stmt F) → ℕ → List ℕ
   equations_of statements name = equations_from [] name statements
 
@@ -154,8 +157,9 @@ module _ {F : Type 0} (number_of : F → Number) (limit : ℕ) (state : State) w
       affine number_of limit state d.right_at binding d.right and_then λ right.
       sum_of_forms limit d.right_at binding true left right
 
-  -- the row of a definition under a binding of sets to labels; None if the indices have no tuple;
-  -- or the first fault
+  -- the row of a definition under a binding of sets to labels; None if an index has no label, for
+  -- example because its lag goes past an end of its set, or if there are more than 10 indices; or
+  -- the first fault
   abbrev pub row_under : Definition F → Pairs → Answer (Option FormRow)
   row_under d binding =
       in_order (labels number_of limit state binding d.indices) and_then λ those.

@@ -222,8 +222,8 @@ fn push_declared<F: ExactField>(names: &mut Names, act: &Act<F>) -> Result<(), A
     }
 }
 
-/// The numbers of the names of a model's equations, by the first declaration of the model: the
-/// equations that it lists, in its order and without repetition, or for `/all/` those that earlier
+/// The equations of a model, by their names' numbers. The first declaration of the model decides:
+/// it lists them, in order, without repetition; or, with `/all/`, they are those that earlier
 /// statements declare, in the order of their declarations. Empty if no statement declares the
 /// model. The error is out of memory. GAMS User's Guide, "Model and Solve Statements".
 pub fn equations_of<F: ExactField>(

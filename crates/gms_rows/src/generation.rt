@@ -96,15 +96,15 @@ fn program_of<F: ExactField>(
     })
 }
 
-/// The linear program that a solve means in a state: the rows of the model's equations, one for
-/// each element of their domains at which their conditions hold; the columns of the objective and
-/// of the elements of variables that occur in the rows, with their bounds; and the objective.
+/// The linear program of the solve at `at`, in a state. Rows: those of the model's equations, one
+/// for each element of an equation's domain at which the condition, if any, holds. Columns: the
+/// objective and the elements of variables that occur in the rows, with their bounds in the state.
 ///
-/// `at` is the place of the solve. The indices of each definition of the program must be labels and
-/// sets without lags, whose members have one label each. The error is out of memory, or a stop: the
+/// The indices of each definition of the GAMS program must be labels, and sets without lags whose
+/// members have one label each. The error is out of memory, or a stop (an execution error): the
 /// first fault of the rows; else `TooManyRows` if the standard form has over 1,500 rows; else
-/// `TooManyColumns` if the standard form has over 3,000 variables. GAMS User's Guide, "Equations",
-/// "Model and Solve Statements".
+/// `TooManyColumns` if it has over 3,000 variables, slacks and variable 0 not counted. GAMS User's
+/// Guide, "Equations", "Model and Solve Statements".
 pub fn generate<F: ExactField>(
     alloc: Global,
     store: &Store<F>,

@@ -26,11 +26,11 @@ ghost use Rattle.gms_rows.specs.Rows.{Definition, FormRow, rows_of_definition};
 
 use gq_field::ExactField;
 
-/// A definition whose indices are labels and sets without lags, where the stored members of these
-/// sets have one label each and are strictly sorted by its number, has exactly one row for each
-/// element of its sets whose condition holds. Each row is that of such an element. At the tuple of
-/// an element whose condition holds there is one row; at that of any other element there is none.
-/// No two rows have the same key. GAMS User's Guide, "Equations", "Conditional Equations".
+/// The rows of a definition whose indices are labels and sets without lags. The stored members of
+/// these sets must have one label each, strictly sorted by its number. Each row is that of an
+/// element of the sets' product at which the condition, if any, holds (`sources`). At each
+/// element's tuple of indices there is one row if the condition holds, and else none (`one`). No
+/// two rows have the same key (`differ`). GAMS User's Guide, "Equations", "Conditional Equations".
 pub fn row_laws<F: ExactField>()
     ensures sources { (state : State) (d : Definition F) (rows : List FormRow) → HasPlainSets state d →
         rows_of_definition F.value F.limit state d ≡ Ok rows →
@@ -46,11 +46,11 @@ pub fn row_laws<F: ExactField>()
         AllPairs (λ a b. a.key ≢ b.key) rows }
 {}
 
-/// The value of a form at a point, which gives each element of a variable a number. The value of a
-/// sum or a difference of two forms is the sum or difference of their values. The value of a
-/// product of two forms, one of which is constant, is the product of their values. The value of a
-/// quotient of a form and a number is the quotient of the form's value and the number. Chvatal,
-/// "Linear Programming", chapter 1.
+/// Values of affine forms at a point, which gives each element of a variable a number. If no fault
+/// occurs, the value of a sum or a difference of two forms is the sum or difference of their
+/// values; that of a product of two forms, one of them constant, is the product of their values;
+/// and that of a form over a number is the form's value over the number. Chvatal, "Linear
+/// Programming", chapter 1.
 pub fn form_laws<F: ExactField>()
     ensures sum { (point : Key → Number) (at : Place) (b : Pairs) (subtracts : Bool) (left right form : Form) →
         sum_of_forms F.limit at b subtracts left right ≡ Ok form →
@@ -64,13 +64,14 @@ pub fn form_laws<F: ExactField>()
         form_at point form ≡ form_at point left /ℚ x }
 {}
 
-/// What the linear program of a solve says of a point, which gives each element of a variable a
-/// number. The form of an expression that is linear in the variables is at each point the value of
-/// the expression with its variables read there. If both sides of each definition of the model are
-/// linear in the variables, the points that satisfy the model are exactly the feasible points of
-/// the program. A point satisfies a model if at each element of the sets of each of its definitions
-/// for which the condition, if any, holds, the left side compares with the right one as `=e=`,
-/// `=l=` or `=g=` says, and each variable of the program is within its bounds.
+/// A point gives each element of a variable a number. If an expression is linear in the variables
+/// and has an affine form, its value at each point is that of the form (`value`).
+///
+/// Let both sides of each definition of a model be linear, and let the model have a linear program.
+/// The points that satisfy the model and the bounds of the program's columns are exactly the
+/// program's feasible points (`feasible`). A point satisfies a model if, at each element of the
+/// sets of each of its definitions at which the condition, if any, holds and the indices exist,
+/// both sides are numbers and compare as `=e=`, `=l=`, `=g=` or `=n=` says.
 ///
 /// GAMS User's Guide, "Equations", "Model and Solve Statements"; Chvatal, "Linear Programming",
 /// chapter 1.

@@ -26,17 +26,18 @@ use gq_field::ExactField;
 use lp_form::{Form, FormSum, Key};
 use std::alloc::Global;
 
-/// The affine form of an expression in a state: a constant, and a coefficient for each element of a
-/// variable. The binding `b` gives each controlled set its label.
+/// The affine form of the expression `e` in a state: a constant, and a coefficient for each element
+/// of a variable. `e` begins at the place `at`. The binding `b` gives each controlled set its
+/// label. A variable with a suffix, such as `x.l`, is a value. Callers pass a linear expression; no
+/// contract states this.
 ///
-/// Callers pass an expression that is linear in the variables, though no contract states this. `at`
-/// is the place of its first character. The operands of a sum or a product before the first with
-/// variables are joined as values; if the result is no number, the stop is `Undefined` at the first
-/// of them. The form of any other operand without variables, or of an expression without them, is
-/// the constant of its value; if the value is no number, the stop is `Undefined` at its place. All
-/// other steps are done entry by entry, the constant first; the first step that computes a number
-/// beyond the field's limit is a stop. The error is the first stop, or out of memory. GAMS User's
-/// Guide, "Equations".
+/// The error is the first stop (an execution error), or out of memory. The terms or factors before
+/// the first with variables are joined as values; if the result is no number, the stop is
+/// `Undefined` at the first of them. Any other operand without variables, or `e` without them, has
+/// its value as a constant form; if that is no number, the stop is `Undefined` at its place. Forms
+/// are joined entry by entry, the constant first: the stop is `Limit` if a number exceeds the
+/// field's limit, `Divide` if a divisor is 0. Values, guards, lags and domains of folds have their
+/// own stops. GAMS User's Guide, "Equations".
 #[cycle(affine)]
 pub fn affine<F: ExactField>(
     alloc: Global,

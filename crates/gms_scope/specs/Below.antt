@@ -20,16 +20,16 @@ bounds state declared name domain_set =
     is_index_set state domain_set && is_met_before declared domain_set (base_of state name)
 
 -- the domain set of a one-dimensional set `name` with this domain, an alias replaced by its set;
--- None if the domain does not consist of one set, or that set is not one-dimensional and declared
--- before `name` (`bounds`); `declared` are the declared names, in order
+-- None if the domain does not consist of one set, or that set is not one-dimensional, or is not
+-- declared before `name` (`bounds`); `declared` are the declared names, in order
 abbrev pub superset_in : State → List ℕ → ℕ → List (Option ℕ) → Option ℕ
 superset_in state declared name (Some domain_set ∷ []) =
     if bounds state declared name domain_set then Some (base_of state domain_set) else None
 superset_in state declared name domain = None
 
--- the domain set of a one-dimensional set `name`, an alias replaced by its set; None if it has no
--- domain set that is one-dimensional and declared before it (`bounds`), or if `name` is no
--- one-dimensional set; `declared` are the declared names, in order
+-- the domain set of a one-dimensional set `name`; if the domain set is an alias, the set of the
+-- alias. None if `name` is no one-dimensional set, or has no domain set that is one-dimensional and
+-- declared before `name` (`bounds`). `declared` are the declared names, in order
 abbrev pub superset : State → List ℕ → ℕ → Option ℕ
 superset state declared name = if is_index_set state name then superset_in state declared name (positions state name) else None
 
@@ -40,8 +40,7 @@ first_base state (Some domain_set ∷ domain) = if is_index_set state domain_set
 first_base state domain = None
 
 -- the domain set of a one-dimensional set `name`, an alias replaced by its set; None if the name
--- has no one-dimensional domain set, or is no one-dimensional set. `state` is the state right after
--- the declaration of `name`; unlike in `superset`, the order of declarations plays no part
+-- has no one-dimensional domain set, or is no one-dimensional set
 abbrev pub base_above : State → ℕ → Option ℕ
 base_above state name = if is_index_set state name then first_base state (positions state name) else None
 
@@ -65,10 +64,11 @@ abbrev pub is_below : State → List ℕ → (ℕ → Option ℕ) → ℕ → �
 is_below state declared above name other =
     is_below_within (length declared) above (base_of state name) (base_of state other)
 
--- whether the set `index` may be the index at a position of `name`, where the domain has
--- `domain_set` at the position. If `domain_set` is None, any set may; otherwise `domain_set` has to
--- be one-dimensional and declared before `name` (`bounds`), and the index has to be below it, where
--- `above` gives the domain set of each set
+-- whether the set `index` may be the index at a position where the domain of `name` has
+-- `domain_set`. If `domain_set` is None, any set may. Otherwise `domain_set` is one-dimensional and
+-- declared before `name` (`bounds`), and is the index, its domain set, the domain set of that, or
+-- so on (`is_below`). `declared` are the declared names, in order; `above` gives the domain set of
+-- each set
 abbrev pub set_fits_position : State → List ℕ → (ℕ → Option ℕ) → ℕ → Option ℕ → ℕ → Bool
 set_fits_position state declared above name None index = true
 set_fits_position state declared above name (Some domain_set) index =

@@ -16,7 +16,7 @@ empty_content (parameter_of entries) = parameter_of finite.empty
 empty_content content = content
 
 -- the state after all data of this name were removed: the members of a set, or the values of a
--- parameter
+-- parameter; unchanged if the name is neither
 abbrev pub with_no_data : State → ℕ → State
 with_no_data state name = with_symbol state name (with_content (symbol_of state name) (empty_content (symbol_of state name).content))
 

@@ -26,8 +26,8 @@ abbrev pub among : DeclarationList → Option ℕ → Option ℕ
 among entries None = None
 among entries (Some name) = if is_entered entries name then Some name else None
 
--- what one declaration of `name` appends to the list: the name with its domain set `above`, or with
--- None if the list does not have this set; nothing if `name` is no number below `names`, the number
--- of names of the program
+-- what one declaration of `name` appends to the list: the name with the set `above` as its domain
+-- set, or with None if `above` is None or is not in the list; nothing if `name` is no number below
+-- `names`, the number of names of the program
 abbrev pub entry : ℕ → DeclarationList → ℕ → Option ℕ → DeclarationList
 entry names entries name above = if nat_lt name names then (name, among entries above) ∷ [] else []

@@ -83,15 +83,15 @@ has_undefined facts name =
 
 -- ---- changes
 
--- what one declaration of a name appends to the list of declarations: the name with its domain set
--- `above`, or with None if `above` is None or is not in the list; nothing if the name is no number
--- below the number of names, which is the length of `defined`
+-- what one declaration of a name appends to the list of declarations: the name with the set `above`
+-- as its domain set, or with None if `above` is None or is not in the list; nothing if the name is
+-- no number below the number of names, which is the length of `defined`
 abbrev pub declared_entry : Facts → ℕ → Option ℕ → DeclarationList
 declared_entry facts name above = entry (length facts.defined) facts.declared name above
 
--- the domain set of a name right after its declaration, if the name was new (true): that of a
--- one-dimensional set, with an alias replaced by its set, and None for any other name; None after a
--- later declaration of the name
+-- the domain set of a name right after a declaration of the name. If the name was new (true) and is
+-- a one-dimensional set over a one-dimensional set, that set, an alias replaced by its set
+-- (`base_above`); otherwise None
 abbrev pub above_new : Bool → State → ℕ → Option ℕ
 above_new true state name = base_above state name
 above_new false state name = None
@@ -130,7 +130,8 @@ with_model_name facts name =
 abbrev pub model_entry : ℕ → ℕ → List ℕ → List (ℕ × List ℕ)
 model_entry names name equations = if nat_lt name names then (name, equations) ∷ [] else []
 
--- what is known after the model `name` with these equations was added to the list of models
+-- what is known after the model `name` with these equations was added to the list of models; if
+-- `name` is no number of a name of the program, the list is unchanged
 abbrev pub with_model : Facts → ℕ → List ℕ → Facts
 with_model facts name equations =
     record facts { models = facts.models ++ model_entry (length facts.defined) name equations }

@@ -40,33 +40,33 @@ abbrev pub AreEquationsDeclared : List ℕ → Equations → Type 0
 AreEquationsDeclared declared (All count) = count ≤ length declared
 AreEquationsDeclared declared (Listed equations) = Unit {0}
 
--- `AreEquationsDeclared` holds for each of these models: none that consists of the first declared
--- equations has more equations than are declared
+-- for each of these models that consists of the first n declared equations, n is at most the number
+-- of declared equations; of a model that lists its equations nothing is required
 abbrev pub AreAllThere : List ℕ → List Model → Type 0
 AreAllThere declared [] = Unit {0}
 AreAllThere declared (model ∷ models) = AreEquationsDeclared declared model.equations × AreAllThere declared models
 
 -- `places` has for each name 1 plus the index of the first model of this name in the list of
--- models, or 0 if there is none; and no model of the first declared equations has more than are
--- declared.
+-- models, or 0 if there is none. A model with `/all/` consists of the first n declared equations,
+-- where n is at most the number of declared equations.
 pub record AreModelsListed (models : Models) : Type 0 where
   pub places : (name : ℕ) → slice_index_or models.places.items name 0 ≡ order_of (model_names models.models.items) name
   pub there : AreAllThere models.equations.items models.models.items
 
--- The first `model.defined` equations of a model exist, and are marked in `defined`; `declared` are
--- all declared equations, in order.
+-- The model has at least `model.defined` equations, and the first `model.defined` of its equations
+-- are marked in `defined` as defined. `declared` are all declared equations, in order.
 pub record IsCountedModel (defined : List Bool) (declared : List ℕ) (model : Model) : Type 0 where
   pub most : model.defined ≤ length (equations_within declared model.equations)
   pub known : list_any (is_missing defined) (take model.defined (equations_within declared model.equations)) ≡ false
 
--- each of these models counts its defined equations right: as many of its first equations as it
--- counts exist, and are marked in `defined`; `declared` are all declared equations, in order
+-- each of these models has at least `model.defined` equations, and the first `model.defined` of its
+-- equations are marked in `defined` as defined; `declared` are all declared equations, in order
 abbrev pub AreCounted : List Bool → List ℕ → List Model → Type 0
 AreCounted defined declared [] = Unit {0}
 AreCounted defined declared (model ∷ models) =
     IsCountedModel defined declared model × AreCounted defined declared models
 
--- each stored model counts its defined equations right: as many of its first equations as it counts
--- exist, and are marked in `defined`
+-- each stored model has at least n equations, where n is the model's field `defined`, and its first
+-- n equations are marked in the list `defined` as defined
 abbrev pub AreModelsCounted : List Bool → Models → Type 0
 AreModelsCounted defined models = AreCounted defined models.equations.items models.models.items

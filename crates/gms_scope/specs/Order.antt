@@ -9,7 +9,8 @@ use Rattle.gms_scope.specs.declared.order.Order.{Order}
 abbrev pub names_of_nodes : List Node → List ℕ
 names_of_nodes nodes = map (λ (node : Node). node.name) nodes
 
--- the view of a node, one declaration of a name: the name, with its domain set (`below`), if any
+-- the view of a node, one declaration of a name: the name, with `below`, the domain set of a
+-- one-dimensional set, or None
 abbrev pub entry_of_node : Node → ℕ × Option ℕ
 entry_of_node node = (node.name, node.below)
 
@@ -53,9 +54,9 @@ abbrev pub IsAbove : List ℕ → Option ℕ → ℕ → ℕ → Type 0
 IsAbove names None place above = above ≡ place
 IsAbove names (Some name) place above = (order_of names name ≡ suc above) × (above < place)
 
--- What holds of the node at the index `place`: its index `above` is that of the first node of its
--- domain set, at an earlier index, or `place` itself if it has none; and `far` is the index of the
--- node at `above` or of a node above that.
+-- What holds of the node at the index `place`. Its index `above` is that of the first node of its
+-- domain set (`below`), at an earlier index, or `place` itself if it has no domain set. Its index
+-- `far` is that of the node at `above` or of a node above that one.
 pub record IsNodeStep (nodes : List Node) (place : ℕ) (node : Node) : Type 0 where
   pub above : node.above ≤ place
   pub below : IsAbove (names_of_nodes nodes) node.below place node.above
@@ -63,7 +64,9 @@ pub record IsNodeStep (nodes : List Node) (place : ℕ) (node : Node) : Type 0 w
   pub under : is_under nodes node.above node.far ≡ true
 
 -- `first` has for each name the position, from 1, of its first declaration (a node), or 0 if there
--- is none; and the indices that each node stores of nodes above it are right (`IsNodeStep`).
+-- is none. A node has its one domain set, if any, in `below`. Its index `above` is that of the
+-- first node of this set, or its own if there is none, and its index `far` is that of the node at
+-- `above` or of one above that node (`IsNodeStep`).
 pub record IsOrder (order : Order) : Type 0 where
   pub places : (name : ℕ) → slice_index_or order.first.items name 0 ≡ order_of (names_of_nodes order.nodes.items) name
   pub steps : (place : ℕ) → place < length order.nodes.items → IsNodeStep order.nodes.items place (node_at order.nodes.items place)

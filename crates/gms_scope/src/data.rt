@@ -17,10 +17,10 @@ use std::alloc::{AllocError, Global};
 /// `None` for an element of a set.
 pub type Data<F> = Vec<(Tuple, Option<Ext<F>>)>;
 
-/// The set at each position of a name that is declared as `kind` with the written domain `domain`.
-/// Each set is given by its number; `None` at a position that admits any label. A set without a
-/// written domain has one position, which admits any label (GAMS User's Guide, "Set Definition").
-/// The error is out of memory.
+/// For each position of a name that is declared as `kind` with the domain `domain`, the number of
+/// its set's name; `None` if the position admits any label. If `domain` is empty, a set has one
+/// position, `None`, and any other name has none (GAMS User's Guide, "Set Definition"). The error
+/// is out of memory.
 pub fn positions(
     alloc: Global,
     kind: DeclKind,
@@ -47,10 +47,10 @@ fn names(alloc: Global, domain: &[Option<Named>]) -> Result<Vec<Option<u32>>, Al
     Ok(sets)
 }
 
-/// Writes the data `given` of the name `name` to the state `store`. A tuple without a value becomes
-/// a member of the set `name`; a tuple with a value gets it as the value of the parameter `name` at
-/// this tuple (GAMS User's Guide, "Data Entry: Parameters, Scalars and Tables"). The error is out
-/// of memory.
+/// Writes the data `given` of the name `name` to the state `store`, in order. A tuple without a
+/// value becomes a member of the set `name`. At a tuple with a value the parameter `name` gets this
+/// value (GAMS User's Guide, "Data Entry: Parameters, Scalars and Tables"). The error is out of
+/// memory.
 pub fn put_data<F: ExactField>(
     alloc: Global,
     store: &mut Store<F>,
@@ -102,10 +102,9 @@ fn given_tuples<F: ExactField>(
     Ok(tuples)
 }
 
-/// Whether the labels of items, in the order in which they are written, have strictly ascending
-/// numbers in the table of labels. An item of several positions counts as the labels of each
-/// position in turn, and a range as all of its labels (GAMS User's Guide, "Sets as Sequences:
-/// Ordered Sets").
+/// Whether the labels of items, in the order of writing, have strictly ascending numbers in the
+/// table of labels. An item has the labels of its first position, then those of its second, and so
+/// on; a range has all of its labels (GAMS User's Guide, "Sets as Sequences: Ordered Sets").
 pub fn are_ascending<F>(items: &[Item<F>]) -> bool
     ensures { result ≡ is_ascending (labels_of_items items.now) }
 {

@@ -31,9 +31,9 @@ fn mark_assigned<F: ExactField>(statements: &[Stmt<F>], store: &Store<F>, marks:
     }
 }
 
-/// Marks the names that a statement assigns, also in the bodies of its loops (GAMS User's Guide,
-/// "Dynamic Sets"). In place of an alias, marks the set of which it is an alias in the state
-/// `store`. Earlier marks stay.
+/// Adds to `marks` the names that assignments in `statement` assign, also in the bodies of loops
+/// (GAMS User's Guide, "Dynamic Sets"). In place of an alias in the state `store`, its set is
+/// marked.
 #[cycle(assigned)]
 pub fn mark_statement<F: ExactField>(statement: &Stmt<F>, store: &Store<F>, marks: &mut Marks)
     ensures { marks.new ≡ with_marks marks.old (map (base_of store.now) (assigned_names statement.now)) }

@@ -20,12 +20,12 @@ use gq_field::ExactField;
 use std::alloc::{AllocError, Global};
 use std::marker::Model;
 
-/// What is known before a statement: the state after the statements before it; which names are
-/// declared, in which order; which equations are defined; which sets are dynamic; which sets have
-/// their labels in another order than that in which labels first occur; and the equations of the
-/// models.
+/// What is known before a statement. From the statements before it: the names that they declare, in
+/// order, with data; the equations that they define; the sets whose data have labels in another
+/// order than that in which labels first occur; and the models with their equations. From the whole
+/// program: the dynamic sets, those that a statement assigns.
 ///
-/// Names are numbers in the program's table. A name that the program does not have is not declared.
+/// A name is its number in the program's table. A number past the last name is undeclared.
 pub struct Known<F: ExactField> {
     store: Store<F>,
     order: Order,
@@ -119,9 +119,9 @@ impl<F: ExactField> Known<F> {
         self.store.domain_of(name).len()
     }
 
-    /// The set at the position `place`, counted from 0, of the domain of a name; an alias has the
-    /// domain of its set. `Some(None)` if the position admits any label, and `None` if the name has
-    /// no such position.
+    /// The set, by its number, at the position `place`, from 0, of a name's domain; an alias has
+    /// the domain of its set. `Some(None)` if the position admits any label; `None` if there is no
+    /// such position.
     pub fn position(&self, name: u32, place: usize) -> Option<Option<u32>>
         ensures { result ≡ slice_get (positions self.now.state name) place }
     {
@@ -143,9 +143,9 @@ impl<F: ExactField> Known<F> {
         self.dynamic.is_set(self.store.base(set))
     }
 
-    /// Whether a set is ordered: it is one-dimensional and not dynamic, and its labels are given in
-    /// the order in which labels first occur in the program; an alias counts as its set (GAMS
-    /// User's Guide, "Sets as Sequences: Ordered Sets").
+    /// Whether a set, or the set of an alias, is ordered: one-dimensional, assigned by no statement
+    /// of the program, with its labels given in the order in which labels first occur (GAMS User's
+    /// Guide, "Sets as Sequences: Ordered Sets").
     pub fn is_ordered(&self, set: u32) -> bool
         ensures { result ≡ is_known_ordered self.now set }
     {
@@ -162,12 +162,12 @@ impl<F: ExactField> Known<F> {
         self.is_index_set(domain_set) && self.order.is_before(domain_set, self.store.base(name))
     }
 
-    /// Whether the set `index` may be the index at a position of the name `name`. `position` is the
-    /// set that the name's domain has at the position. If it is `None`, each set may be the index.
-    /// Otherwise the set `position` must be one-dimensional and declared before the name (for an
-    /// alias: before its set); and `position` must be the set `index` itself, or its domain set, or
-    /// the domain set of that, and so on, where an alias counts as its set (GAMS User's Guide, "Set
-    /// Definition", domain checking).
+    /// Whether the set `index` may be the index at a position of the name `name`, where `position`
+    /// is the set at this position of the name's domain. If `position` is `None`, any set may be.
+    /// Otherwise `position` must be one-dimensional and be declared before the name (before its
+    /// set, if the name is an alias). It must also be `index`, or the domain set of `index`, or the
+    /// domain set of that, and so on, each alias replaced by its set (GAMS User's Guide, "Set
+    /// Definition").
     pub fn fits(&self, name: u32, position: Option<u32>, index: u32) -> bool
         ensures { result ≡ set_fits_position self.now.state (names self.now) (above_of self.now.declared) name position index }
     {
@@ -182,10 +182,10 @@ impl<F: ExactField> Known<F> {
         }
     }
 
-    /// Whether the label `label` may be the index at a position of the name `name`. `position` is
-    /// the set that the name's domain has at the position. If it is `None`, each label may be the
-    /// index. Otherwise the set `position` must be one-dimensional and declared before the name
-    /// (for an alias: before its set); and it must have the label as a member. The error is out of
+    /// Whether the label `label` may be the index at a position of the name `name`, where
+    /// `position` is the set at this position of the name's domain. Without a set (`None`), any
+    /// label may be. Otherwise the set must be one-dimensional, be declared before the name (before
+    /// its set, if the name is an alias), and have the label as a member. The error is out of
     /// memory.
     pub fn holds(
         &self,
@@ -223,9 +223,9 @@ impl<F: ExactField> Known<F> {
         self.models.all_defined(model, &self.defined)
     }
 
-    /// Declares the name `name` as `kind` with the domain `domain`, without data. If a name is
-    /// declared more than once, its first declaration counts, except that a later one may give a
-    /// type to a free variable (GAMS User's Guide, "Variables"). The error is out of memory.
+    /// Declares the name `name` as `kind` with the domain `domain`, without data. A declared name
+    /// keeps its declaration; but a free variable takes the type of a later variable declaration,
+    /// and loses its data (GAMS User's Guide, "Variables"). The error is out of memory.
     pub fn declare(
         &mut self,
         alloc: Global,
@@ -261,10 +261,10 @@ impl<F: ExactField> Known<F> {
         }
     }
 
-    /// Of the names `first` and `second`, makes the one that is undeclared an alias of the other,
-    /// if the other is a set, or of its set, if the other is an alias. In any other case, declares
-    /// as a set each of the two that is undeclared (GAMS User's Guide, "Set Definition", aliases).
-    /// The error is out of memory.
+    /// Declares `alias (first, second)`. If one name is a set or an alias of a set, and the other
+    /// is undeclared, the other becomes an alias of this set. In any other case each undeclared one
+    /// of the two becomes a set (GAMS User's Guide, "Set Definition", aliases). The error is out of
+    /// memory.
     pub fn declare_alias(
         &mut self,
         alloc: Global,
@@ -278,8 +278,8 @@ impl<F: ExactField> Known<F> {
         self.order.declare(second, None)
     }
 
-    /// Declares a name as a model; a name that is declared already keeps its declaration. A call of
-    /// `list` or `list_all` then stores the equations of the model (GAMS User's Guide, "Model and
+    /// Declares a name as a model, without equations; a declared name keeps its declaration. The
+    /// caller then stores the equations by `list` or `list_all` (GAMS User's Guide, "Model and
     /// Solve Statements"). The error is out of memory.
     pub fn declare_model(&mut self, alloc: Global, name: u32) -> Result<(), AllocError>
         ensures { OnOk result (self.new ≡ with_model_name self.old name) }
@@ -304,10 +304,10 @@ impl<F: ExactField> Known<F> {
         self.models.declare_listed(model, equations)
     }
 
-    /// Writes the data `given` of the name `name` to the state. A tuple without a value becomes a
-    /// member of the set `name`; a tuple with a value gets it as the value of the parameter `name`
-    /// at this tuple (GAMS User's Guide, "Data Entry: Parameters, Scalars and Tables"). The error
-    /// is out of memory.
+    /// Writes the data `given` of the name `name` to the state, in order. A tuple without a value
+    /// becomes a member of the set `name`. At a tuple with a value the parameter `name` gets this
+    /// value (GAMS User's Guide, "Data Entry: Parameters, Scalars and Tables"). The error is out of
+    /// memory.
     pub fn give(
         &mut self,
         alloc: Global,

@@ -56,9 +56,9 @@ pub struct Model {
     pub name: u32,
     /// The equations of the model.
     pub equations: Equations,
-    /// How many equations at the start of the model's list of equations are known to be defined,
-    /// that is, to have a definition `e.. x =l= 1;`. They remain defined, so a later call of
-    /// `all_defined` begins after them.
+    /// The number of equations at the start of the model's list that `all_defined` has found to be
+    /// defined, by a statement such as `e.. x =l= 1;`. They remain defined, so its next call begins
+    /// after them.
     pub defined: usize,
 }
 
@@ -116,11 +116,13 @@ impl Models {
 }
 
 impl Models {
-    /// Appends the equation with the number `equation` to the declared equations. Each model keeps
-    /// its equations. `places` must have the first model of each name, as its field says, and still
-    /// does (`AreModelsListed`). If the equations that each model's field `defined` counts are
-    /// marked in a list of marks `defined`, they still are (`AreModelsCounted`). The error is out
-    /// of memory.
+    /// Appends the equation with the number `equation` to the declared equations. No model changes.
+    /// The error is out of memory.
+    ///
+    /// `places` must have for each name 1 plus the index of its first model in `models`, or 0
+    /// without a model. In `Equations::All(n)`, n must be at most the number of declared equations
+    /// (`AreModelsListed`). Both are so after the call. A list `defined` that marks the first
+    /// `model.defined` equations of each model still does so after the call (`AreModelsCounted`).
     pub fn declare_equation(&mut self, equation: u32) -> Result<(), AllocError>
         requires { AreModelsListed self.old }
         ensures listed { AreModelsListed self.new }
@@ -133,11 +135,13 @@ impl Models {
         Ok(())
     }
 
-    /// Appends a declaration of the model `name`, whose equations are all that are declared so far.
-    /// The call changes nothing if the program does not have the name. `places` must have the first
-    /// model of each name, as its field says, and still does (`AreModelsListed`). If the equations
-    /// that each model's field `defined` counts are marked in a list of marks `defined`, they still
-    /// are (`AreModelsCounted`). The error is out of memory.
+    /// Appends a model `name` with all equations that are declared so far. Nothing changes if the
+    /// program lacks the name. The error is out of memory.
+    ///
+    /// `places` must have for each name 1 plus the index of its first model in `models`, or 0
+    /// without a model. In `Equations::All(n)`, n must be at most the number of declared equations
+    /// (`AreModelsListed`). Both are so after the call. A list `defined` that marks the first
+    /// `model.defined` equations of each model still does so after the call (`AreModelsCounted`).
     pub fn declare_all(&mut self, name: u32) -> Result<(), AllocError>
         requires { AreModelsListed self.old }
         ensures listed { AreModelsListed self.new }
@@ -150,11 +154,13 @@ impl Models {
         self.declare(name, Equations::All(count))
     }
 
-    /// Appends a declaration of the model `name`, whose equations are those with the numbers
-    /// `equations`. The call changes nothing if the program does not have the name. `places` must
-    /// have the first model of each name, as its field says, and still does (`AreModelsListed`). If
-    /// the equations that each model's field `defined` counts are marked in a list of marks
-    /// `defined`, they still are (`AreModelsCounted`). The error is out of memory.
+    /// Appends a model `name` of the equations with the numbers `equations`. Nothing changes if the
+    /// program lacks the name. The error is out of memory.
+    ///
+    /// `places` must have for each name 1 plus the index of its first model in `models`, or 0
+    /// without a model. In `Equations::All(n)`, n must be at most the number of declared equations
+    /// (`AreModelsListed`). Both are so after the call. A list `defined` that marks the first
+    /// `model.defined` equations of each model still does so after the call (`AreModelsCounted`).
     pub fn declare_listed(&mut self, name: u32, equations: Vec<u32>) -> Result<(), AllocError>
         requires { AreModelsListed self.old }
         ensures listed { AreModelsListed self.new }
@@ -194,12 +200,14 @@ impl Models {
 }
 
 impl Models {
-    /// Whether all equations of a model, by its first declaration, are defined, where `defined`
-    /// marks the defined ones; true for a name without a model. The call stores with the model how
-    /// many equations at the start of its list are defined, so that the next call begins after
-    /// them. `places` must have the first model of each name (`AreModelsListed`), and the equations
-    /// that the stored numbers count must be marked in `defined` (`AreModelsCounted`); both still
-    /// hold.
+    /// Whether `defined` marks all equations of the first model named `model`; true if no model is.
+    /// Stores in this model how many equations at the start of its list are marked; the next call
+    /// begins after them.
+    ///
+    /// `places` must have for each name 1 plus the index of its first model in `models`, or 0
+    /// without a model. In `Equations::All(n)`, n must be at most the number of declared equations
+    /// (`AreModelsListed`). `defined` must mark the first `model.defined` equations of each model
+    /// (`AreModelsCounted`). All this is so afterwards.
     pub fn all_defined(&mut self, model: u32, defined: &Marks) -> bool
         requires listed { AreModelsListed self.old }
         requires counted { AreModelsCounted defined.now self.old }

@@ -9,26 +9,23 @@ use std::alloc::{AllocError, Global};
 /// One declaration of a name of any kind. The place of a node is its index in the list of nodes,
 /// from 0.
 ///
-/// Only a one-dimensional set has a domain set: the set in its domain, an alias replaced by its
-/// set. It is directly below this set: after `set j(i);` the set `j` is below the set `i`, and `i`
-/// is above `j`.
+/// Only a one-dimensional set may have a domain set: the set in its domain, or the set of an alias
+/// there. It is directly below this set: after `set j(i);`, `j` is below `i`, and `i` is above `j`.
 #[derive(Clone, Copy)]
 pub struct Node {
     /// The number of the name that is declared.
     pub name: u32,
-    /// The number of the domain set, the one set that the name is directly below by this
-    /// declaration. `None` if this declaration gives the name no domain set.
+    /// The number of the domain set that this declaration gives the name; `None` if it gives the
+    /// name no domain set.
     pub below: Option<u32>,
-    /// How many sets are above the name: its domain set, the domain set of that set, and so on; 0
-    /// if it has no domain set.
+    /// How many sets are above this node: the set `below`, the domain set of that set, and so on.
     pub depth: usize,
-    /// The place, which is the index in the list of nodes, of the first node that declares the
-    /// domain set `below`; this node's own place if `below` is `None`.
+    /// The index in the list of nodes of the first node that declares the set `below`; this node's
+    /// own index if `below` is `None`.
     pub above: usize,
-    /// The place, which is the index in the list of nodes, of a node one or more steps above this
-    /// node, each step from a node to its `above`; this node's own place if no node is above it. A
-    /// search upward for a place goes from this node to `far` if `far` is not less than that place;
-    /// otherwise it goes one step, to `above`.
+    /// The index in the list of nodes of a node one or more steps above this node, each step from a
+    /// node to its `above`; this node's own index if `below` is `None`. Each step leads to a lesser
+    /// index, so a search upward for the index i may skip to `far` unless `far` is below i.
     pub far: usize,
 }
 
@@ -94,11 +91,10 @@ impl Order {
         }
     }
 
-    /// Appends a declaration of the name `name`. Its domain set is `above`, if an earlier node
-    /// declares that set; otherwise, and if `above` is `None`, it has no domain set. The call
-    /// changes nothing if the program does not have the name. `first`, and `above` and `far` of
-    /// each node, must be as their fields say, and still are (`IsOrder`). The error is out of
-    /// memory.
+    /// Appends a declaration (a node) of the name `name`. It has the domain set `above` if `above`
+    /// is a set that an earlier node declares, and otherwise no domain set. If the program has no
+    /// name `name`, the call changes nothing. The indices in `first` and in the nodes must be right
+    /// (`IsOrder`), and are right after the call. The error is out of memory.
     pub fn declare(&mut self, name: u32, above: Option<u32>) -> Result<(), AllocError>
         requires { IsOrder self.old }
         ensures order { IsOrder self.new }
@@ -166,9 +162,9 @@ impl Order {
         if step == next { far.far } else { above }
     }
 
-    /// Whether the name `name` is declared before the name `other`, by the first declaration of
-    /// each. True if `name` alone is declared, and false if `name` is not declared. `first`, and
-    /// `above` and `far` of each node, must be as their fields say (`IsOrder`).
+    /// Whether the first declaration of the name `name` precedes that of the name `other`. True if
+    /// only `name` is declared, and false if `name` is not declared. The indices in `first` and in
+    /// the nodes must be right (`IsOrder`).
     pub fn is_before(&self, name: u32, other: u32) -> bool
         requires { IsOrder self.now }
         ensures { result ≡ is_met_before (names_of_nodes self.now.nodes.items) name other }
@@ -178,9 +174,9 @@ impl Order {
         order > 0 && (others == 0 || order < others)
     }
 
-    /// Whether the set `name` is the set `other`, or reaches it by one or more steps, each from a
-    /// set to the domain set that its first declaration gives it. `first`, and `above` and `far` of
-    /// each node, must be as their fields say (`IsOrder`).
+    /// Whether the set `name` is the set `other`, or reaches it by steps, each from a
+    /// one-dimensional set to the domain set that its first declaration gives it. The indices in
+    /// `first` and in the nodes must be right (`IsOrder`).
     pub fn is_below(&self, name: u32, other: u32) -> bool
         requires { IsOrder self.now }
         ensures { result ≡ is_below_within (length self.now.nodes.items) (above_of (entries_of_nodes self.now.nodes.items)) name other }

@@ -27,8 +27,8 @@ is_outside state None label = false
 is_outside state (Some set) label = not (has (members_of state set) (label ∷ []))
 
 -- whether some position of an item has a label that is no member of the set of the position;
--- `parts` are the labels of each position. A position that only one of the two lists has does not
--- count
+-- `parts` are the labels of each position. A position that has no set, or that only one of the two
+-- lists has, does not count
 abbrev pub has_outside : State → List (Option ℕ) → List (List ℕ) → Bool
 has_outside state (set ∷ sets) (labels ∷ rest) = list_any (is_outside state set) labels || has_outside state sets rest
 has_outside state sets parts = false
@@ -66,7 +66,8 @@ module _ {F : Type 0} where
   with_items state domain given (item ∷ items) =
       unless (error_of state domain (tuples_of given) item) item.at (with_items state domain (given ++ tuples_with_value item.value (tuple_product item.parts)) items)
 
-  -- the tuples that the items of a list give, each with the value of its item, or the first fault
+  -- the tuples that the items of a list give, each with the value of its item; or the fault of the
+  -- first item that has an error (`error_of`). `domain` has the set of each position, if any
   abbrev pub expanded : State → List (Option ℕ) → List (Item F) → Result (ExpandedData F) SetFault
   expanded state domain items = with_items state domain [] items
 

@@ -31,7 +31,7 @@ number_in_label label = digits_value 10 (digits_of label)
 abbrev pub is_padded : List ℕ → Bool
 is_padded digits = nat_lt 1 (length digits) && get_or digits 0 0 == 48
 
--- whether a label ends in 1 to 9 digits
+-- whether a label has at least 1 and at most 9 digits at its end
 abbrev pub is_numbered : List ℕ → Bool
 is_numbered label = nat_le 1 (length (digits_of label)) && nat_le (length (digits_of label)) 9
 
@@ -61,7 +61,8 @@ abbrev pub padded_digits : ℕ → ℕ → List ℕ
 padded_digits width n = replicate (width - length (decimal n)) 48 ++ decimal n
 
 -- the members of the range `from*to`, in order: the text of `from` before its digits, followed by
--- each number from that of `from` to that of `to`, which has at least `digit_width` digits
+-- each number from that of `from` to that of `to`. If the digits of `from` are padded with zeros,
+-- each number is padded to as many digits (`digit_width`)
 abbrev pub members : List ℕ → List ℕ → List (List ℕ)
 members from to =
     map (λ n. text_before_digits from ++ padded_digits (digit_width (digits_of from)) n) (range_with_len (number_in_label from) (number_in_label to - number_in_label from + 1))

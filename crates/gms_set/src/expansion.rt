@@ -22,8 +22,8 @@ pub(crate) const MOST_TUPLES: usize = 1_048_576;
 /// The tuples that the items of a data list gave so far, each with the value of its item. No tuple
 /// occurs twice.
 ///
-/// The field `seen` is `None` only if each tuple is greater than the one before it. Otherwise it is
-/// the set of all tuples so far. Two tuples compare by the numbers of the first labels that differ.
+/// `seen` is the set of all these tuples. It may be `None` if each tuple is greater than the one
+/// before it. Tuples compare by the numbers of the first labels that differ; a prefix is less.
 #[derive(Drop)]
 pub struct Expansion<F> {
     given: Vec<(Tuple, Option<Ext<F>>)>,
@@ -63,14 +63,16 @@ impl<F: ExactField> Expansion<F> {
         given
     }
 
-    /// Appends the tuples of an item, each with the item's value. `None` means that the item has no
-    /// error and all its tuples were appended. `Some` has the error of the item; no contract states
-    /// which of its tuples were then appended. Of several errors it is the first in this order: a
-    /// label that the set of its position does not have; two labels that are no range; more than
-    /// 1,048,576 tuples, together with those so far; a tuple that occurs twice, or among those so
-    /// far. `domain` has the set of each position, `None` for a position that admits any label;
-    /// `store` has the members of these sets. The item has one list of labels for each position,
-    /// and there are at most ten positions. The error of the call itself is out of memory.
+    /// Appends the tuples of `item`, each with the item's value; the last position varies fastest.
+    /// `Ok(None)`: the item has no error. `Ok(Some(e))`: e is the item's first error in this order:
+    /// a label that the set of its position does not have; two labels that are no range; more than
+    /// 1,048,576 tuples in all, with those so far; a tuple that the item repeats, or that was given
+    /// before. `Err`: out of memory. In the last two cases no contract states which tuples were
+    /// appended.
+    ///
+    /// `domain` has the set of each position, `None` for a position that admits any label; `store`
+    /// has the members of these sets. The item must have one list of labels for each position, and
+    /// at most ten positions.
     pub fn add(
         &mut self,
         alloc: Global,

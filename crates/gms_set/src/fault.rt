@@ -50,15 +50,15 @@ impl SetError {
     }
 }
 
-/// An error of a data list and the place of the item with the error; or the error of the function
-/// `range`.
+/// An error of a data list and the place of the item with the error. An error of the function
+/// `range` of this crate has line 0 and column 0.
 #[derive(Clone, Copy, Debug, Error)]
 #[error("{at}: {code} {name}: {error}", code = .error.code(), name = .error.name())]
 pub struct SetFault {
-    /// Which error of a data list it is.
+    /// Which error it is.
     pub error: SetError,
-    /// The place of the item with the error. A fault of the function `range` has line 0 and column
-    /// 0, since no item is read there.
+    /// The place of the item with the error; line 0 and column 0 if the error is of the function
+    /// `range`, which reads no item.
     pub at: Place,
 }
 

@@ -11,17 +11,17 @@ use gq_extended::Ext;
 use gq_field::ExactField;
 use std::alloc::Global;
 
-/// The tuples that the items give, in the order of the data, each with the value of its item, or
-/// `None` if the item gives no value. `domain` has the set of each position, `None` for a position
-/// that admits any label; `store` has the members of these sets.
+/// The tuples that `items` give, in order, each with the value of its item, or `None` if the item
+/// has no value. The item `(a1*a3).x 5` gives three tuples; the last position varies fastest.
+/// `domain` has the set of each position, `None` for a position that admits any label; `store` has
+/// the members of these sets. Each item must have one list of labels for each position, and at most
+/// ten positions.
 ///
-/// The item `(a1*a3).x 5` gives three tuples; the last position varies fastest. The fault is that
-/// of the first item with an error. Of several errors of that item it is the first in this order: a
-/// label that the set of its position does not have; two labels that are no range; more than
-/// 1,048,576 tuples, together with those of the items before; a tuple that occurs twice, or in an
-/// item before. The error may also be out of memory. Every item has one list of labels for each
-/// position, and there are at most ten positions. GAMS User's Guide, "Set Definition", "Data Entry:
-/// Parameters, Scalars and Tables".
+/// The error is out of memory, or that of the first item with an error, at its place. Of the item's
+/// errors it is the first in this order: a label that the set of its position does not have; two
+/// labels that are no range; more than 1,048,576 tuples in all, with those of the items before; a
+/// tuple that the item repeats, or that an item before gives. GAMS User's Guide, "Set Definition",
+/// "Data Entry: Parameters, Scalars and Tables".
 pub fn expand<F: ExactField>(
     alloc: Global,
     items: &[Item<F>],

@@ -11,9 +11,9 @@ use gms_tuple::Tuple;
 use gq_field::ExactField;
 use std::alloc::{AllocError, Global};
 
-/// Whether some position of an item has a label that is no member, by `store`, of the set of the
-/// position. `parts` has the item's labels for each position, and `domain` has the set of each
-/// position, `None` for a position that admits any label. The error is out of memory.
+/// Whether an item has, at some position, a label that is no member of the position's set in
+/// `store`. `parts` has the item's labels for each position; `domain`, of the same length, has the
+/// set of each position, `None` if it admits any label. The error is out of memory.
 pub fn has_outside<F: ExactField>(
     alloc: Global,
     store: &Store<F>,

@@ -18,9 +18,9 @@ pub fn count(parts: &[Sequence<u32>]) -> usize
     count
 }
 
-/// The tuple at the index `place`, from 0, among the `count` tuples with one of the listed labels
-/// at each position; the last position varies fastest. `parts` are the labels that an item lists
-/// for each position.
+/// The tuple at the index `place`, from 0 and below `count`, of the `count` tuples with one label
+/// of `parts` at each of their at most ten positions; the last position varies fastest. The error
+/// is out of memory.
 pub fn tuple_at(
     alloc: Global,
     parts: &[Sequence<u32>],

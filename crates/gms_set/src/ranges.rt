@@ -17,17 +17,15 @@ const MOST_MEMBERS: u32 = 65_536;
 const MOST_DIGITS: usize = 9;
 
 /// The members of the range `from*to`, in order: the text of `from` before its digits, followed by
-/// each number from that of `from` to that of `to`. The number of a label is that of the digits in
-/// which the label ends.
+/// each number from that of `from` to that of `to`. The digits at the end of a label mean its
+/// number; `0` alone has no leading zeros. If that of `from` has leading zeros, those of all
+/// members have as many digits; otherwise none has leading zeros.
 ///
-/// There is no range in these cases: the texts before the digits differ, letter case ignored; a
-/// label ends in no digits or in more than nine; the number of `to` is less than that of `from`, or
-/// there would be more than 65,536 members; the number of `from` is written with zeros before it
-/// and that of `to` with another number of digits, or that of `to` alone is written with zeros
-/// before it. The fault is then BadRange at line 0 and column 0. The only other error is out of
-/// memory. If the number of `from` is written with zeros before it, the number of each member is
-/// written with as many digits as that of `from`; otherwise with no zeros before it. GAMS User's
-/// Guide, "Set Definition".
+/// There is no range if the texts before the digits differ, letter case ignored; a label ends in no
+/// digits or in more than nine; the number of `to` is less than that of `from`; there are more than
+/// 65,536 members; the number of `from` has leading zeros, and that of `to` another number of
+/// digits; or only the number of `to` has leading zeros. The error is then BadRange at line 0 and
+/// column 0. The only other error is out of memory. GAMS User's Guide, "Set Definition".
 pub fn range(alloc: Global, from: &str, to: &str) -> Result<Vec<String>, SetFaultOrMemory>
     ensures members { IfOk result (λ labels. (is_range from.now to.now ≡ true) × (map string_bytes labels.items ≡ members from.now to.now)) }
     ensures fault { IfErr result (IsRangeError (is_range from.now to.now)) }

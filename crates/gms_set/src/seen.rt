@@ -10,13 +10,12 @@ use gq_extended::Ext;
 use std::alloc::{AllocError, Global};
 use std::cmp::Ordering;
 
-/// Whether a tuple is new, that is, none of those in `given`. Before the call, `seen` describes the
-/// tuples in `given`. If the tuple is new, `seen` afterwards describes those in `given`, followed
-/// by this one. If it is not, or memory runs out, `seen` describes those in `given` alone.
+/// Whether `tuple` is new, that is, not in `given`. Before the call, `seen` must describe the
+/// tuples of `given`. If `tuple` is new, `seen` afterwards describes those of `given` followed by
+/// `tuple`. If it is not new, or memory runs out, `seen` describes those of `given` alone.
 ///
-/// To describe tuples, `seen` is either the set of them, or `None`; `None` only if each tuple is
-/// greater than the one before it. Two tuples compare by the numbers of the first labels that
-/// differ.
+/// `seen` describes tuples if it is their set, or is `None` and each tuple is greater than the one
+/// before it. Tuples compare by the numbers of the first labels that differ; a prefix is less.
 pub fn see<F>(
     alloc: Global,
     seen: &mut Option<TupleSet>,

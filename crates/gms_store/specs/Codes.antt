@@ -78,15 +78,16 @@ type_code = code_by ℕ coded_ℕ to from back
 abbrev pub entries_code : {X : Type 0} → Coded X → Coded (Entries X)
 entries_code x = finite.code (coded_list coded_ℕ) x
 
--- what each kind of content is made of, as a sum with one case for each kind, in this order: no
--- data of an undeclared name, the number of the set of an alias, the members of a set, the entries
--- of a parameter, the type and the entries of a variable, the entries of an equation, and the
--- numbers of the two statuses of a model, its own and the solver's
+-- the data of each kind of content, as a sum with one case for each kind, in this order: nothing
+-- for an undeclared name, the number of the set of an alias, the members of a set, the entries of a
+-- parameter, the type and the entries of a variable, the entries of an equation, and the numbers of
+-- the two statuses of a model, its own and the solver's
 abbrev Parts : Type 0
 Parts =
     Unit {0} ⊎ (ℕ ⊎ (List (List ℕ) ⊎ (Entries extended.Extended ⊎ ((VariableType × Entries Attributes) ⊎ (Entries Attributes ⊎ (ℕ × ℕ))))))
 
--- the one-to-one encoding (`Coded`) of what a name denotes, by its kind and what that is made of
+-- the one-to-one encoding (`Coded`) of what a name denotes, by the kind of content and the data of
+-- this kind (`Parts`)
 abbrev pub content_code : Coded Content
 content_code =
     code_by Parts (coded⊎ coded_unit (coded⊎ coded_ℕ (coded⊎ (coded_list (coded_list coded_ℕ)) (coded⊎ (entries_code extended_code) (coded⊎ (coded× type_code (entries_code attributes_code)) (coded⊎ (entries_code attributes_code) (coded× coded_ℕ coded_ℕ))))))) to from back

@@ -77,7 +77,7 @@ is_undeclared content = false
 
 -- a symbol after one more declaration of its name, of this kind and written domain: a new name is
 -- declared, and a declared one keeps its first declaration, with one exception: a free variable
--- that is declared as a variable once more gets the later type, and has no data
+-- that is declared as a variable once more gets the later type and loses its data
 abbrev pub declared_again : DeclKind → List (Option ℕ) → Symbol → Symbol
 declared_again kind domain symbol =
     if is_undeclared symbol.content then symbol_of_kind kind domain else with_content symbol (retyped symbol.content (content_of kind))
@@ -86,8 +86,9 @@ declared_again kind domain symbol =
 abbrev pub put_at : State → ℕ → Symbol → State
 put_at state name symbol = record { symbols = set state.symbols name symbol; settings = state.settings }
 
--- the state after a declaration of the name of this number, of this kind and written domain; a
--- declared name keeps its first declaration, except that a free variable may get another type
+-- the state after a declaration of this kind, with this written domain, of the name of this number;
+-- a declared name keeps its first declaration, except that a free variable that is declared as a
+-- variable once more gets the later type and loses its data
 abbrev pub declare : DeclKind → List (Option ℕ) → State → ℕ → State
 declare kind domain state name =
     put_at state name (declared_again kind domain (symbol_at state name))
@@ -165,7 +166,7 @@ module _ {F : Type 0} where
   declared_first count state (Alias first second) = if count == 0 then state else declare Set [] state first.name
   declared_first count state act = state
 
-  -- the state after the declarations of some statements, in order
+  -- the state after the declarations of some statements, in order, without their data
   abbrev pub declared_by_all : State → List (Stmt F) → State
   declared_by_all state statements = fold (λ state (statement : Stmt F). declared_by state statement.act) state statements
 

@@ -253,7 +253,8 @@ abbrev pub with_membership : Content → List ℕ → Bool → Content
 with_membership (set_of members) t on = set_of (if on then inserted members t else removed members t)
 with_membership content t on = content
 
--- a parameter with this value at a tuple; any other content stays
+-- a parameter's content after this value was written at a tuple, where a value of 0 leaves no entry
+-- there; any other content is unchanged
 abbrev pub with_value : Content → List ℕ → extended.Extended → Content
 with_value (parameter_of entries) t x = parameter_of (entries_after_write (is_given x) entries t x)
 with_value content t x = content

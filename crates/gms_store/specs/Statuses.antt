@@ -6,7 +6,7 @@ use Rattle.gms_store.specs.declared.status.SolveStatus.TheVariants.{Unsolved, Op
 
 -- the number of the model's status, `.modelstat`, after a solve that ended so, or before any solve
 -- (`Unsolved`). The limit of pivots ends a solve before a feasible point (`Intermediate`) or at one
--- that is not optimal (`Feasible`). `Unanswered` means that the solver gave up
+-- that need not be optimal (`Feasible`). `Unanswered` means that the solver gave up
 abbrev pub model_number : SolveStatus → ℕ
 model_number Unsolved = 0
 model_number Optimal = 1
@@ -18,7 +18,7 @@ model_number Unanswered = 13
 
 -- the number of the solver's status, `.solvestat`, after a solve that ended so, or before any solve
 -- (`Unsolved`). The limit of pivots ends a solve before a feasible point (`Intermediate`) or at one
--- that is not optimal (`Feasible`). `Unanswered` means that the solver gave up
+-- that need not be optimal (`Feasible`). `Unanswered` means that the solver gave up
 abbrev pub solver_number : SolveStatus → ℕ
 solver_number Unsolved = 0
 solver_number Optimal = 1
@@ -51,7 +51,7 @@ solver_text Feasible = codes "Iteration Interrupt"
 solver_text Unanswered = codes "Terminated By Solver"
 
 -- all ways in which a solve may end, and `Unsolved` before any solve. The limit of pivots ends a
--- solve before a feasible point (`Intermediate`) or at one that is not optimal (`Feasible`).
--- `Unanswered` means that the solver gave up
+-- solve before it has a feasible point (`Intermediate`) or at a feasible point that need not be
+-- optimal (`Feasible`). `Unanswered` means that the solver gave up
 abbrev pub all_statuses : List SolveStatus
 all_statuses = Unsolved ∷ Optimal ∷ Unbounded ∷ Infeasible ∷ Intermediate ∷ Feasible ∷ Unanswered ∷ []

@@ -11,9 +11,9 @@ use std::cmp::Ordering;
 /// marginal (GAMS User's Guide, "Variables", "Equations").
 #[derive(Clone, Copy)]
 pub struct Attributes<F> {
-    /// The lower bound of the element; `None` if there is no finite one.
+    /// The lower bound of the element; `None` if it is minus infinity.
     pub lower: Option<F>,
-    /// The upper bound of the element; `None` if there is no finite one.
+    /// The upper bound of the element; `None` if it is plus infinity.
     pub upper: Option<F>,
     /// The level of the element, its `.l`.
     pub level: F,

@@ -5,9 +5,8 @@ use crate::kind::VariableType;
 use gms_tuple::TupleSet;
 use gq_extended::Ext;
 
-/// What a name denotes, with its data. For a parameter, a variable and an equation, a tuple has an
-/// entry only if its data differ from those that an element has before any are written, such as the
-/// value 0.
+/// What a name denotes, with its data. Of a parameter, a variable or an equation, a tuple has an
+/// entry only if its data differ from those of an element without data, such as the value 0.
 pub enum Content<F> {
     /// Nothing is declared.
     Undeclared,

@@ -25,12 +25,11 @@ impl<F: ExactField> Store<F> {
         Ok(())
     }
 
-    /// Declares the names that a statement declares, without their data (GAMS User's Guide, "GAMS
-    /// Programs", the statements that declare).
+    /// Declares the names of a declaration, an alias or a model statement, without their data (GAMS
+    /// User's Guide, "GAMS Programs"). Any other `act` changes nothing.
     ///
-    /// A statement that declares no names changes nothing. If out of memory, only a prefix of the
-    /// names of the statement is declared; of an alias statement the first name may be declared, as
-    /// a set.
+    /// The only error is out of memory. Then a declaration has declared only a prefix of its names.
+    /// An alias statement has declared no name, or only the first name, as a set if it is new.
     pub fn declare_act(&mut self, alloc: Global, act: &Act<F>) -> Result<(), AllocError>
         ensures ok { OnOk result (self.new ≡ declared_by self.old act.now) }
         ensures err { OnErr result ((count : ℕ) × (self.new ≡ declared_first count self.old act.now)) }
@@ -66,10 +65,10 @@ impl<F: ExactField> Store<F> {
     /// each position of the name, `None` for a position that admits any label. If `domain` is
     /// empty, a set has one position, which admits any label; any other name has no positions.
     ///
-    /// A declaration of a declared name changes nothing, with one exception: a declaration of a
-    /// free variable as a variable gives it the type of `kind`, and removes its data (GAMS User's
-    /// Guide, "Variables"). A number past the last name of the program changes nothing. If out of
-    /// memory, the state is unchanged.
+    /// A declared name is unchanged, with one exception: if `kind` is a variable's, a free variable
+    /// gets the type of `kind` and loses its data (GAMS User's Guide, "Variables"). A number past
+    /// the last name of the program changes nothing. The only error is out of memory; the state is
+    /// then unchanged.
     pub fn declare(
         &mut self,
         alloc: Global,
@@ -88,10 +87,10 @@ impl<F: ExactField> Store<F> {
         Ok(())
     }
 
-    /// Declares an alias (GAMS User's Guide, "Set Definition", aliases): if one of the two names is
-    /// not declared and the other is a set or an alias of one, the undeclared name becomes an alias
-    /// of that set. In any other case, each of the two that is not declared becomes a set. If out
-    /// of memory, the state is unchanged, or only the name `first` is declared, as a set.
+    /// Declares an alias (GAMS User's Guide, "Set Definition", aliases): if one of the names
+    /// `first` and `second` is a set or an alias of one, and the other is not declared, the other
+    /// becomes an alias of that set. In any other case, each of the two that is not declared
+    /// becomes a set. The only error is out of memory: then at most `first` is declared, as a set.
     pub fn declare_alias(
         &mut self,
         alloc: Global,

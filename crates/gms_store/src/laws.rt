@@ -8,11 +8,11 @@ ghost use Rattle.gms_store.specs.Frames.{Keeps};
 ghost use Rattle.gms_store.specs.Statuses.{model_number, model_text, solver_number};
 ghost use Rattle.gms_store.specs.declared.status.SolveStatus.{SolveStatus};
 
-/// What is read after a write of a value, of attributes (bounds, level and marginal), or of whether
-/// a tuple is a member. At the written tuple, it is the data that were written, if the name has the
-/// kind for them (a parameter, a variable or an equation, a set) and the tuple has as many labels
-/// as the domain has positions. At every other tuple of the name, and at every tuple of every other
-/// name, it is the data from before the write. An alias and its set are one name here.
+/// What is read at a tuple after a write: of the value of a parameter, of the attributes (bounds,
+/// level, marginal) of a variable or an equation, or of whether a set has a member. At the written
+/// tuple it is what was written, if the name is one of the program and of that kind, and the tuple
+/// has as many labels as the name has positions. At each other tuple of the name, and at each tuple
+/// of another name, it is as before the write. An alias and its set are one name here.
 pub fn write_laws()
     ensures value { (state : State) (name : ℕ) (t : List ℕ) (x : Extended) (entries : Entries Extended) →
         base_of state name < length state.symbols →
@@ -41,10 +41,9 @@ pub fn write_laws()
 {}
 
 /// What a write to a name leaves unchanged: the data of all other names; of every name its domain
-/// and the set of which it is an alias; the number of names; the settings (`Keeps`); and of every
-/// name, the written one too, the data of other kinds than the write's. For example, the write of a
-/// value leaves all members, attributes and statuses unchanged. An alias and its set are one name
-/// here.
+/// and the set of which it is an alias; the number of names; the settings (`Keeps`). Data are
+/// values, members, attributes or statuses; a write of one of these leaves the other three of every
+/// name unchanged. An alias and its set are one name here.
 pub fn frame_laws()
     ensures value { (state : State) (name : ℕ) (t : List ℕ) (x : Extended) → Keeps state (after_value state name t x) name }
     ensures value_leaves_members { (state : State) (name : ℕ) (t : List ℕ) (x : Extended) (other : ℕ) →

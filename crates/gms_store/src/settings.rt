@@ -1,9 +1,8 @@
 //! The settings that options change.
 
-/// The settings of a run, each named as the option that sets it; `option lp` sets `solver`.
+/// The settings of a run, each named as its option, except `solver`, which `option lp` sets.
 ///
-/// `option limrow = 0, solprint = off;` sets two of them. GAMS User's Guide, "The Option
-/// Statement".
+/// `option limrow = 0, solprint = off;` sets two. GAMS User's Guide, "The Option Statement".
 #[derive(Clone, Copy, Debug, PartialEq, Eq)]
 pub struct Settings {
     /// The greatest number of rows that a listing shows of each equation for a solve.

@@ -2,9 +2,9 @@
 ghost use Rattle.std.specs.Prelude.{◌≡◌};
 ghost use Rattle.gms_store.specs.Statuses.{model_number, model_text, solver_number, solver_text};
 
-/// How the last solve of a model ended. Each way has two numbers, each with a text: the model's
-/// status, `m.modelstat`, and the solver's status, `m.solvestat`. GAMS User's Guide, "GAMS Output",
-/// model status and solver status.
+/// How a model's last solve ended, if any. Each variant has two numbers, each with a text: the
+/// model's status, `m.modelstat`, and the solver's, `m.solvestat`. GAMS User's Guide, "GAMS
+/// Output", model status and solver status.
 #[derive(Clone, Copy, Debug, PartialEq, Eq)]
 pub enum SolveStatus {
     /// The model was not solved yet.

@@ -19,19 +19,19 @@ use gq_field::ExactField;
 use std::alloc::{AllocError, Global};
 use std::marker::Model;
 
-/// The state of a run: for each name its domain and what it denotes, and the settings. Contracts
-/// see it as finite maps: from a set to its members, from a parameter and a tuple to a value, from
-/// a variable or an equation and a tuple to bounds, level and marginal, from a model to two
+/// The state of a run: the settings, and for each name its domain, what it denotes, and its data.
+/// In contracts the data are the members of a set, the value of a parameter at each tuple, the
+/// bounds, level and marginal of a variable or an equation at each tuple, and a model's two
 /// statuses.
 ///
-/// Names and labels are numbers, the indices in the two tables of the program. An alias denotes its
-/// set. An element without data has the value 0, or the level 0, the marginal 0 and the bounds of
-/// the variable's type, none for an equation; only entries that differ from these are stored. To
-/// read a name that the program does not have, or that is of another kind than what is read, is to
-/// read a name without data. To write to such a name, or at a tuple with another number of labels
-/// than the name has positions, changes nothing; a checked program has no such write. If out of
-/// memory, the store is unchanged, except that `declare_act` and `declare_alias` may have declared
-/// some of their names.
+/// Names and labels are numbers, the indices in the program's tables of names and labels. An alias
+/// denotes its set. At a tuple without data a value, a level or a marginal is 0, a variable has the
+/// bounds of its type, and an equation has no bounds. Only data that differ from these are stored.
+/// A name that the program does not have, or of another kind than what is read, reads as one
+/// without data. A write to such a name, or at a tuple with another number of labels than the name
+/// has positions, changes nothing; a checked program has no such write. A call that runs out of
+/// memory leaves the store unchanged, but `declare_act` and `declare_alias` may have declared some
+/// names.
 pub struct Store<F: ExactField> {
     pub(crate) symbols: Vec<Symbol<F>>,
     settings: Settings,
@@ -124,8 +124,8 @@ impl<F: ExactField> Store<F> {
         }
     }
 
-    /// The domain of a name: for each position the number of the set whose labels it admits, `None`
-    /// for a position that admits any label. The domain of an alias is that of its set. The domain
+    /// The domain of a name: for each position the number of the set whose members the position
+    /// admits, `None` if it admits any label. The domain of an alias is that of its set. The domain
     /// of a name that is not declared is empty.
     pub fn domain_of(&self, name: u32) -> &[Option<u32>]
         ensures { result.now ≡ (symbol_of self.now name).domain }
@@ -133,10 +133,11 @@ impl<F: ExactField> Store<F> {
         self.symbol(name).domain()
     }
 
-    /// The tuples of a name at which it has data: the members of a set; the tuples at which the
-    /// value of a parameter is not 0; the tuples at which the bounds, level or marginal of a
-    /// variable or an equation differ from those of an element without data; none for any other
-    /// name. They are in the order of tuples: by the numbers of the first labels that differ.
+    /// The tuples at which a name has data, ordered by the numbers of the first labels that differ.
+    /// They are the members of a set; the tuples at which the value of a parameter is not 0; the
+    /// tuples at which the bounds, level or marginal of a variable or an equation differ from those
+    /// of an element without data; none for a model or an undeclared name. An alias counts as its
+    /// set.
     pub fn given(&self, name: u32) -> &TupleSet
         ensures value { result.now ≡ given_of self.now name }
         // A tuple is in the set exactly if its data differ from those of an element without data.
@@ -198,9 +199,9 @@ impl<F: ExactField> Store<F> {
         self.members(set).contains(t)
     }
 
-    /// Inserts a tuple into a set if `on`, and otherwise removes it from the set. A name of another
-    /// kind, or a tuple with another number of labels than the name has positions, changes nothing.
-    /// If out of memory, the state is unchanged.
+    /// Inserts a tuple into a set if `on`, otherwise removes it. Nothing changes if the name is no
+    /// set or alias of one, if the tuple has another number of labels than the set has positions,
+    /// or if out of memory, the only error.
     pub fn set_member(
         &mut self,
         alloc: Global,
@@ -227,18 +228,18 @@ impl<F: ExactField> Store<F> {
         self.symbol(name).value(t)
     }
 
-    /// The value of a parameter at a tuple: 0 if there are no data at the tuple, or the name is no
-    /// parameter. `place` affects speed only: the search is faster if it is the index, from 0, of
-    /// the tuple among those with data.
+    /// The value of a parameter at the tuple `t`: 0 if there are no data at `t`, or the name is no
+    /// parameter. `place`, a guess of the index of `t`, from 0, among the tuples with data, affects
+    /// speed only.
     pub fn value_near(&self, name: u32, t: &Tuple, place: usize) -> Ext<F>
         ensures { extended F.value result ≡ value_of self.now name t.now }
     {
         self.symbol(name).value_near(t, place)
     }
 
-    /// Writes the value of a parameter at a tuple. A name of another kind, or a tuple with another
-    /// number of labels than the name has positions, changes nothing. If out of memory, the state
-    /// is unchanged.
+    /// Writes the value of a parameter at a tuple. Nothing changes if the name is no parameter, if
+    /// the tuple has another number of labels than the name has positions, or if out of memory, the
+    /// only error.
     pub fn put(&mut self, alloc: Global, name: u32, t: &Tuple, v: Ext<F>) -> Result<(), AllocError>
         ensures ok { OnOk result (self.new ≡ after_value self.old name t.now (extended F.value v)) }
         ensures err { OnErr result (self.new ≡ self.old) }
@@ -251,37 +252,37 @@ impl<F: ExactField> Store<F> {
         Ok(())
     }
 
-    /// The bounds, the level and the marginal of a variable or an equation at a tuple. If there are
-    /// no data at the tuple, the level and the marginal are 0, the bounds of a variable are those
-    /// of its type, and an equation has no bounds. A name of another kind reads as an equation
-    /// without data.
+    /// The bounds, the level and the marginal of a variable or an equation at a tuple. Without data
+    /// at the tuple, the level and the marginal are 0, the bounds of a variable are those of its
+    /// type, and an equation has no bounds. A name of another kind reads as an equation without
+    /// data.
     pub fn attributes(&self, name: u32, t: &Tuple) -> Attributes<F>
         ensures { attributes_shown F.value result ≡ attributes_of self.now name t.now }
     {
         self.symbol(name).attributes(t)
     }
 
-    /// The bounds, the level and the marginal of a variable or an equation at a tuple. If there are
-    /// no data at the tuple, the level and the marginal are 0, the bounds of a variable are those
-    /// of its type, and an equation has no bounds. A name of another kind reads as an equation
-    /// without data. `place` affects speed only: the search is faster if it is the index, from 0,
-    /// of the tuple among those with data.
+    /// The bounds, the level and the marginal of the variable or equation `name` at the tuple `t`.
+    /// Without data at `t`, the level and the marginal are 0, the bounds of a variable are those of
+    /// its type, and an equation has no bounds. A name of another kind reads as an equation without
+    /// data. `place`, a guess of the index of `t`, from 0, among the tuples with data, affects
+    /// speed only.
     pub fn attributes_near(&self, name: u32, t: &Tuple, place: usize) -> Attributes<F>
         ensures { attributes_shown F.value result ≡ attributes_of self.now name t.now }
     {
         self.symbol(name).attributes_near(t, place)
     }
 
-    /// The lower bound of a variable or an equation at a tuple; `None` if it is minus infinity. If
-    /// there are no data at the tuple, it is that of the variable's type, and `None` for an
-    /// equation. It is `None` for a name of another kind.
+    /// The lower bound of a variable or an equation at a tuple; `None` is minus infinity. If there
+    /// are no data at the tuple, it is that of the variable's type, and `None` for an equation. It
+    /// is `None` for a name of another kind.
     pub fn lower(&self, name: u32, t: &Tuple) -> Option<F>
         ensures { option_map F.value result ≡ (attributes_of self.now name t.now).lower }
     {
         self.attributes(name, t).lower
     }
 
-    /// The upper bound of a variable or an equation at a tuple; `None` if it is infinity. If there
+    /// The upper bound of a variable or an equation at a tuple; `None` is plus infinity. If there
     /// are no data at the tuple, it is that of the variable's type, and `None` for an equation. It
     /// is `None` for a name of another kind.
     pub fn upper(&self, name: u32, t: &Tuple) -> Option<F>
@@ -307,9 +308,9 @@ impl<F: ExactField> Store<F> {
     }
 
     /// Writes the lower bound of a variable or an equation at a tuple; `None` is minus infinity.
-    /// The other attributes at the tuple are unchanged. A name of another kind, or a tuple with
-    /// another number of labels than the name has positions, changes nothing. If out of memory, the
-    /// state is unchanged.
+    /// The other attributes are unchanged. Nothing changes if the name is of another kind, if the
+    /// tuple has another number of labels than the name has positions, or if out of memory, the
+    /// only error.
     pub fn put_lower(
         &mut self,
         alloc: Global,
@@ -326,10 +327,10 @@ impl<F: ExactField> Store<F> {
         self.put_attributes(alloc, name, t, new)
     }
 
-    /// Writes the upper bound of a variable or an equation at a tuple; `None` is infinity. The
-    /// other attributes at the tuple are unchanged. A name of another kind, or a tuple with another
-    /// number of labels than the name has positions, changes nothing. If out of memory, the state
-    /// is unchanged.
+    /// Writes the upper bound of a variable or an equation at a tuple; `None` is plus infinity. The
+    /// other attributes are unchanged. Nothing changes if the name is of another kind, if the tuple
+    /// has another number of labels than the name has positions, or if out of memory, the only
+    /// error.
     pub fn put_upper(
         &mut self,
         alloc: Global,
@@ -346,9 +347,9 @@ impl<F: ExactField> Store<F> {
         self.put_attributes(alloc, name, t, new)
     }
 
-    /// Writes the level of a variable or an equation at a tuple. The other attributes at the tuple
-    /// are unchanged. A name of another kind, or a tuple with another number of labels than the
-    /// name has positions, changes nothing. If out of memory, the state is unchanged.
+    /// Writes the level of a variable or an equation at a tuple; its bounds and marginal are
+    /// unchanged. Nothing changes if the name is of another kind, if the tuple has another number
+    /// of labels than the name has positions, or if out of memory, the only error.
     pub fn put_level(&mut self, alloc: Global, name: u32, t: &Tuple, v: F) -> Result<(), AllocError>
         ensures ok { OnOk result
             (self.new ≡ after_attributes self.old name t.now (with_level (attributes_of self.old name t.now) (F.value v))) }
@@ -359,9 +360,9 @@ impl<F: ExactField> Store<F> {
         self.put_attributes(alloc, name, t, new)
     }
 
-    /// Writes the marginal of a variable or an equation at a tuple. The other attributes at the
-    /// tuple are unchanged. A name of another kind, or a tuple with another number of labels than
-    /// the name has positions, changes nothing. If out of memory, the state is unchanged.
+    /// Writes the marginal of a variable or an equation at a tuple; its bounds and level are
+    /// unchanged. Nothing changes if the name is of another kind, if the tuple has another number
+    /// of labels than the name has positions, or if out of memory, the only error.
     pub fn put_marginal(
         &mut self,
         alloc: Global,
@@ -378,9 +379,9 @@ impl<F: ExactField> Store<F> {
         self.put_attributes(alloc, name, t, new)
     }
 
-    /// Writes the bounds, the level and the marginal of a variable or an equation at a tuple. A
-    /// name of another kind, or a tuple with another number of labels than the name has positions,
-    /// changes nothing. If out of memory, the state is unchanged.
+    /// Writes the bounds, level and marginal of a variable or an equation at a tuple. Nothing
+    /// changes if the name is of another kind, if the tuple has another number of labels than the
+    /// name has positions, or if out of memory, the only error.
     pub fn put_attributes(
         &mut self,
         alloc: Global,
@@ -419,8 +420,8 @@ impl<F: ExactField> Store<F> {
         }
     }
 
-    /// The settings of the run, which `option` statements change (`limrow`, `iterlim` and others):
-    /// those at its start, or those that were last put in their place.
+    /// The current settings of the run (`limrow`, `iterlim` and others), which `option` statements
+    /// change.
     pub fn settings(&self) -> Settings
         ensures { result ≡ self.now.settings }
     {
@@ -434,10 +435,10 @@ impl<F: ExactField> Store<F> {
         self.settings = s;
     }
 
-    /// Puts the state `other` over this one (GAMS User's Guide, "Save and Restart"). Each name that
-    /// `other` declares becomes what it is in `other`, with its data, and the settings become those
-    /// of `other`. A name that `other` does not declare is unchanged. The data are moved, not
-    /// copied, so no memory is requested.
+    /// Puts the state `other` over this one (GAMS User's Guide, "Save and Restart"). Each name of
+    /// this state that `other` declares becomes what it is in `other`, with its data; the others
+    /// are unchanged. Names that only `other` has are dropped. The settings become those of
+    /// `other`. No memory is requested.
     pub fn overlay(&mut self, other: Store<F>)
         ensures { self.new ≡ overlaid self.old other }
     {

@@ -64,9 +64,9 @@ impl<F: ExactField> Symbol<F> {
         }
     }
 
-    /// The symbol of a name that a declaration of this kind declares, without data. `domain` has
-    /// the set of each position, `None` for a position that admits any label. A set whose `domain`
-    /// is empty has one position, which admits any label. The only error is out of memory.
+    /// The symbol of a name that is declared as `kind`, without data. `domain` has the set of each
+    /// position, `None` for one that admits any label. If `domain` is empty, a set has one
+    /// position, which admits any label, another symbol none. The only error is out of memory.
     pub fn new(
         alloc: Global,
         kind: DeclKind,
@@ -142,10 +142,10 @@ impl<F: ExactField> Symbol<F> {
         }
     }
 
-    /// Declares the symbol's name with this kind and domain. A symbol that is declared already is
-    /// unchanged, with one exception: a variable of the type `Free` that is declared as a variable
-    /// again gets the type of this kind, and loses its data. If out of memory, the symbol is
-    /// unchanged.
+    /// Declares the symbol as `kind`. `domain` has the set of each position, or `None` for any
+    /// label. A declared symbol is unchanged, except that a `Free` variable declared as a variable
+    /// gets the type of `kind`, and loses its data. The only error is out of memory, without a
+    /// change.
     pub fn declare(
         &mut self,
         alloc: Global,
@@ -223,12 +223,12 @@ impl<F: ExactField> Symbol<F> {
         self.domain.as_slice()
     }
 
-    /// The tuples at which the symbol has data, in the order of tuples, by the first label that
-    /// differs: the members of a set, or the tuples at which a parameter, a variable or an equation
-    /// differs from an element without data. `None` if the symbol is of a kind without tuples: not
-    /// declared, an alias or a model. Of each tuple with data, the number of labels is that of the
-    /// symbol's positions, and no element is stored that equals one without data (`kept`). The
-    /// numbers at each tuple are within the limit of the field `F` (`fit`).
+    /// The tuples at which the symbol has data: the members of a set, or the tuples at which a
+    /// parameter, a variable or an equation differs from one without data. They ascend by the
+    /// numbers of the first labels that differ. `None` if the symbol is undeclared, an alias or a
+    /// model. Each tuple has as many labels as the symbol has positions, and nothing that equals an
+    /// element without data is stored (`kept`). Numerators and denominators of the data are at most
+    /// `F.limit` in magnitude (`fit`).
     pub fn given(&self) -> Option<&TupleSet>
         ensures some { IfSome result (λ set. set.now ≡ given_in self.now.content) }
         ensures none { IfNone result (given_in self.now.content ≡ []) }
@@ -276,9 +276,9 @@ impl<F: ExactField> Symbol<F> {
         }
     }
 
-    /// The value of a parameter at a tuple: 0 if there are no data at the tuple, or if the symbol
-    /// is no parameter. `place` affects speed only: the search is faster if it is the index, from
-    /// 0, of the tuple among those with data.
+    /// The value of a parameter at the tuple `t`: 0 if there are no data at `t`, or if the symbol
+    /// is no parameter. `place`, a guess of the index of `t`, from 0, among the tuples with data,
+    /// affects speed only.
     pub fn value_near(&self, t: &Tuple, place: usize) -> Ext<F>
         ensures { extended F.value result ≡ value_in self.now.content t.now }
     {
@@ -289,10 +289,10 @@ impl<F: ExactField> Symbol<F> {
         }
     }
 
-    /// The bounds, the level and the marginal of a variable or an equation at a tuple. If there are
-    /// no data at the tuple, the level and the marginal are 0, the bounds of a variable are those
-    /// of its type, and an equation has no bounds. For a symbol of another kind both numbers are 0,
-    /// and there are no bounds.
+    /// The bounds, the level and the marginal of a variable or an equation at a tuple. Without data
+    /// at the tuple, the level and the marginal are 0, the bounds of a variable are those of its
+    /// type, and an equation has no bounds. A symbol of another kind has level 0, marginal 0 and no
+    /// bounds.
     pub fn attributes(&self, t: &Tuple) -> Attributes<F>
         ensures { attributes_shown F.value result ≡ attributes_in self.now.content t.now }
     {
@@ -305,11 +305,11 @@ impl<F: ExactField> Symbol<F> {
         }
     }
 
-    /// The bounds, the level and the marginal of a variable or an equation at a tuple. If there are
-    /// no data at the tuple, the level and the marginal are 0, the bounds of a variable are those
-    /// of its type, and an equation has no bounds. For a symbol of another kind both numbers are 0,
-    /// and there are no bounds. `place` affects speed only: the search is faster if it is the
-    /// index, from 0, of the tuple among those with data.
+    /// The bounds, the level and the marginal of a variable or an equation at the tuple `t`.
+    /// Without data at `t`, the level and the marginal are 0, the bounds of a variable are those of
+    /// its type, and an equation has no bounds. A symbol of another kind has level 0, marginal 0
+    /// and no bounds. `place`, a guess of the index of `t`, from 0, among the tuples with data,
+    /// affects speed only.
     pub fn attributes_near(&self, t: &Tuple, place: usize) -> Attributes<F>
         ensures { attributes_shown F.value result ≡ attributes_in self.now.content t.now }
     {
@@ -324,9 +324,8 @@ impl<F: ExactField> Symbol<F> {
         }
     }
 
-    /// The two statuses of a model as numbers: the model's status, `.modelstat`, and then the
-    /// solver's, `.solvestat`. Both are 0 until a solve of the model, and if the symbol is no
-    /// model.
+    /// The numbers of a model's two statuses: the model's, `.modelstat`, then the solver's,
+    /// `.solvestat`. Both are 0 before the first solve of the model, and if the symbol is no model.
     pub fn statuses(&self) -> (u8, u8)
         ensures { result ≡ statuses_in self.now.content }
     {
@@ -343,9 +342,9 @@ impl<F: ExactField> Symbol<F> {
         t.as_slice().len() == self.domain.len()
     }
 
-    /// Inserts a tuple into a set if `on`, and otherwise removes it from the set. A symbol of
-    /// another kind, or a tuple with another number of labels than the symbol has positions,
-    /// changes nothing. If out of memory, the symbol is unchanged.
+    /// Inserts a tuple into the set if `on`, otherwise removes it. Nothing changes if the symbol is
+    /// no set (an alias is none), if the tuple has another number of labels than the set has
+    /// positions, or if out of memory, the only error.
     pub fn set_member(&mut self, alloc: Global, t: &Tuple, on: bool) -> Result<(), AllocError>
         ensures ok { OnOk result (self.new ≡ if_fits self.old t.now (with_membership self.old.content t.now on)) }
         ensures err { OnErr result (self.new ≡ self.old) }
@@ -365,9 +364,9 @@ impl<F: ExactField> Symbol<F> {
         Ok(())
     }
 
-    /// Writes the value of a parameter at a tuple; a value of 0 is not stored. A symbol of another
-    /// kind, or a tuple with another number of labels than the symbol has positions, changes
-    /// nothing. If out of memory, the symbol is unchanged.
+    /// Writes the value of a parameter at a tuple; 0 is not stored. Nothing changes if the symbol
+    /// is no parameter, if the tuple has another number of labels than the symbol has positions, or
+    /// if out of memory, the only error.
     pub fn put(&mut self, alloc: Global, t: &Tuple, value: Ext<F>) -> Result<(), AllocError>
         ensures ok { OnOk result (self.new ≡ if_fits self.old t.now (with_value self.old.content t.now (extended F.value value))) }
         ensures err { OnErr result (self.new ≡ self.old) }
@@ -382,10 +381,10 @@ impl<F: ExactField> Symbol<F> {
         Ok(())
     }
 
-    /// Writes the bounds, the level and the marginal of a variable or an equation at a tuple; they
-    /// are not stored if they are those of an element without data. A symbol of another kind, or a
-    /// tuple with another number of labels than the symbol has positions, changes nothing. If out
-    /// of memory, the symbol is unchanged.
+    /// Writes the bounds, the level and the marginal of a variable or an equation at a tuple; those
+    /// of an element without data are not stored. Nothing changes if the symbol is of another kind,
+    /// if the tuple has another number of labels than the symbol has positions, or if out of
+    /// memory, the only error.
     pub fn put_attributes(
         &mut self,
         alloc: Global,

@@ -66,9 +66,9 @@ impl<X: Copy> Values<X> {
         }
     }
 
-    /// The value at a tuple; `None` if the map has no value there. `place` affects speed only: no
-    /// search is made if it is the index, from 0, of the tuple in `following`, the list of the
-    /// values that were appended in the order of tuples.
+    /// The value at the tuple `t`; `None` if the map has none there. `place` affects speed only: no
+    /// search is made if `t` has the index `place`, from 0, in `following`, the list of the values
+    /// that were appended in the order of tuples.
     pub fn get_near(&self, t: &Tuple, place: usize) -> Option<X>
         ensures { result ≡ finite.get self.now t.now }
     {
