@@ -31,10 +31,11 @@ abbrev pub HasWords : Result (IntoIter (String Global) Global) Error → List (S
 HasWords (Ok args) words = words ≡ drop 1 (into_iter_items args)
 HasWords (Err error) words = (error_kind error ≡ InvalidData) × (words ≡ [])
 
--- the solvers that the program gives to a run, with their rules: Bland's rule; the largest
--- coefficient, or any improving variable (`Turning`), until the search turns to Bland's rule after
--- successive degenerate pivots; and any legal pivots. `paths` has for each solver the pivots of
--- each answer that it has given: none yet
+-- the solvers that the program gives to a run. The rule of bland is Bland's; of dantzig, the
+-- largest coefficient; of steepest, any improving variable; of any, any legal pivot. dantzig and
+-- steepest turn to Bland's rule in a phase after as many successive degenerate pivots as there are
+-- variables, variable 0 included. `paths` has the pivots of each answer that a solver gave: none
+-- yet
 abbrev pub lent : Solvers
 lent =
     record {
@@ -45,13 +46,12 @@ lent =
 
 -- A run of these arguments with the solvers `lent` ends with this status; the host is in the state
 -- `old` before it and `new` after it. `solving` has the solvers before the run, which are `lent`
--- (`lends`), the solvers after it, and their answers to its linear programs. The run did what this
--- status says (`run`), and each of these answers is right if the input was executed (`answers`).
--- For a request of a FILE and no option but an output name, the status Done, Compile or Execution
--- means that the whole listing was written (`headline`). If the arguments request an input that the
--- host has, and no fault of the host was met, then the status is Compile exactly if the input
--- cannot be run (`compile`), and Execution exactly if an execution error stopped its run
--- (`execution`).
+-- (`lends`), the solvers after it, and their answers to the run's linear programs. The run did what
+-- this status says (`run`), and each answer is right if the input was executed (`answers`). For a
+-- request of a FILE and no option but an output name, the status Done, Compile or Execution means
+-- that the whole listing was written (`headline`). If the arguments request an input that the host
+-- has, and no fault of the host was met, then the status is Compile exactly if the input cannot be
+-- run (`compile`), and Execution exactly if an execution error stopped its run (`execution`).
 pub record RunsWith (status : Status) (words : List (List ℕ)) (old new : Meaning) : Type 0 where
   pub solving : Solving
   pub lends : solving.before ≡ lent
@@ -64,19 +64,19 @@ pub record RunsWith (status : Status) (words : List (List ℕ)) (old new : Meani
   pub execution : (source : NamesSource old.outside words) → MeetsNoFault old.counts new.counts →
       (status ≡ Execution) ↔ IsStopped solving source.taken
 
--- a run of the process's arguments ends with this status; the host is in the state `old` before it
--- and `new` after it
+-- a run of the process's arguments ends with this status; the host is in the state `old` before the
+-- run and `new` after it. If an argument is not UTF-8, the run has no arguments (`HasWords`)
 abbrev pub RunsGiven : Status → Result (IntoIter (String Global) Global) Error → Meaning → Meaning → Type 0
 RunsGiven status args old new = (words : List (String Global)) × (HasWords args words × RunsWith status (texts words) old new)
 
--- A run of the process's arguments ends with this status; the host is in the state `old` before it
--- and `new` after it. The host's counts of faults change as the status says (`counts`): that of
--- reading rises with ReadFault, that of writing with WriteFault, and with Done, Compile and
--- Execution neither changes if the host is precise (it counts a fault only in a call that answers
--- with one). If the host is reliable and has the requested files, as far as it exposes its files,
--- the status is no fault of the host (`no_fault`). The status is Usage exactly if the arguments are
--- no request (`usage`). If the requested input can be run, and no fault of the host was met, the
--- status is Done or Execution (`complete`).
+-- A run of the process's arguments ends with this status and leads the host from the state `old` to
+-- `new`. The host's counts of faults change as the status says (`counts`): that of reading rises
+-- with ReadFault, that of writing with WriteFault, and with Done, Compile and Execution neither
+-- changes if the host is precise (it counts a fault only in a call that answers with one). If the
+-- host is reliable and has the requested files, as far as it exposes its files, the status is not
+-- ReadFault or WriteFault (`no_fault`). The status is Usage exactly if the arguments are no request
+-- (`usage`). If the requested input can be run, and no fault of the host was met, the status is
+-- Done or Execution (`complete`).
 pub record EndsGiven (status : Status) (args : Result (IntoIter (String Global) Global) Error) (old new : Meaning) : Type 0 where
   pub run : RunsGiven status args old new
   pub counts : CountsSo status old.counts new.counts
@@ -89,7 +89,7 @@ abbrev pub exit_of : Result Status AllocError → ℕ
 exit_of (Ok status) = status_code status
 exit_of (Err e) = 6
 
--- the process exits with `code`: the status of a run of its arguments, or 6 if that ran out of
--- memory; the host is in the state `old` before the run and `new` after it
+-- The process exits with `code`: the status of a run of its arguments, which leads the host from
+-- the state `old` to `new`; or 6 if the run ran out of memory, and then nothing is stated of `new`.
 abbrev pub ExitsSo : ℕ → Result (IntoIter (String Global) Global) Error → Meaning → Meaning → Type 0
 ExitsSo code args old new = (ended : Result Status AllocError) × ((code ≡ exit_of ended) × IfOk ended (λ status. EndsGiven status args old new))

@@ -21,9 +21,10 @@ joint_source saved file = saved ++ (10 ∷ 59 ∷ 10 ∷ file)
 abbrev pub first_line : List ℕ → ℕ
 first_line saved = length (filter (λ byte. byte == 10) saved) + 3
 
--- The tokens `joint` of a joint source begin as the tokens `tokens` of the saved source without the
--- token of its end. Line ends that are tokens may follow, then a `;`, and then other tokens, which
--- begin at the first byte of the file or after it.
+-- The tokens `joint` of a joint source begin with the saved source's tokens, `tokens`, without its
+-- end token. Line ends that are tokens may follow, then a `;`, and then other tokens. The other
+-- tokens begin at byte `length saved + 3` of the joint source, where the file begins that continues
+-- the saved source, or later.
 pub record HaveJointPrefix (saved : List ℕ) (tokens joint : List Token) : Type 0 where
   pub own : List Token
   pub tokens_are : tokens ≡ own ++ end_token saved ∷ []

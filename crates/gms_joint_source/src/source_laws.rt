@@ -8,16 +8,15 @@ ghost use Rattle.gms_grammar.specs.Grammar.{DerivationTree};
 ghost use Rattle.gms_expressions.specs.Outcomes.{kinded_tokens};
 ghost use Rattle.gms_joint_source.specs.JointSources.{joint_source, HaveJointPrefix, DerivesSource, BeginsWith};
 
-/// A joint source is a saved source, a line with `;`, and a file that continues the saved source.
-/// It begins as the saved source does, whatever the saved source ends in: a table, a comment, a
-/// list of data, or a statement without its `;` (GAMS User's Guide, "Save and Restart", "GAMS
-/// Programs").
+/// A joint source is a saved source, a line end, a line with `;`, and a file that continues the
+/// saved source. The saved source may end in a table, a comment, a list of data, or a statement
+/// without its `;` (GAMS User's Guide, "Save and Restart", "GAMS Programs").
 ///
-/// The tokens of the joint source begin with those of the saved source except its last, `End`. To
-/// the grammar these tokens are the same in both, and a `;` follows them. If the saved source ends
-/// within a list of data, line ends may precede the `;` as tokens; if the saved source is a
-/// program, there are none. If both are programs, the derivation of the joint source begins with
-/// that of the saved source.
+/// The tokens of the joint source are those of the saved source without its last, `End`, then
+/// perhaps tokens of line ends, then a `;`, then others (`tokens`). If the saved source is a
+/// program, there are no such line ends (`no_ends`). The saved source's tokens, without `End`, have
+/// the same terminals of the grammar in both sources (`seen`). If both sources are programs, the
+/// derivation of the joint source begins with that of the saved source (`derivation`).
 pub fn joint_token_laws()
     ensures tokens { (saved file : List ℕ) (tokens joint : List Token) →
         IsTokens saved tokens → IsTokens (joint_source saved file) joint → HaveJointPrefix saved tokens joint }

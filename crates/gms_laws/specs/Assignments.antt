@@ -27,7 +27,7 @@ use Rattle.gms_laws.specs.Domains.{HasItsMembers, IsWhereItHolds}
 pub record Execution (F : Type 0) : Type 0 where
   pub world : World F
   pub statement : Stmt F
-  -- the left side, its condition, and the right side with its place
+  -- left side, condition, place of the right side, right side
   pub target : Target F
   pub condition : Option (Expr F)
   pub right_at : Place
@@ -80,8 +80,9 @@ module _ {F : Type 0} (number_of : F → Number) (limit : ℕ) where
   abbrev pub IsRight : Execution F → List ℕ → Extended → Type 0
   IsRight e element x = value number_of limit e.before (element_binding e element) (tree_of e.right) ≡ Ok x
 
-  -- Under the element the right side has a value, and that is the attribute of the left side's
-  -- suffix at the tuple after the assignment; the other attributes there are as before.
+  -- With the labels of the element for the sets of the left side that no loop controls, the right
+  -- side has a value. After the assignment, the attributes at the tuple are those from before it,
+  -- except that the attribute of the left side's suffix is assigned this value (`with_attribute`).
   pub record HasAttribute (e : Execution F) (element tuple : List ℕ) : Type 0 where
     pub x : Extended
     pub is : IsRight e element x

@@ -17,8 +17,9 @@ use Rattle.lp_core.specs.declared.answer.Answer.{Answer}
 use Rattle.gms_laws.specs.Plans.{Question, IsSo}
 
 module _ {F : Type 0} (number_of : F → Number) (limit : ℕ) (world : World F) (first : State) (statements : List (Stmt F)) (answers : List (Answer F)) where
-  -- the course of the run of the statements from the state `first` with all answers: its state, its
-  -- events and, if it has halted, why
+  -- the course of the run of the statements from the state `first`, where `answers`, all of them
+  -- and in order, are the solvers' answers for its solves: the run's state, its events and, if it
+  -- has halted, why
   abbrev pub run_with_answers : Course
   run_with_answers = run_from number_of limit world first (map (answer_numbers number_of) answers) statements
 

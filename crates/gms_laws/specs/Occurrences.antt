@@ -189,9 +189,11 @@ pub data IsOfMembers : ExpressionStep → Type 0 where
 pub data MayHaveVariable : Role → List ExpressionStep → Type 0 where
   in_side : {steps : List ExpressionStep} → All IsArithmetic steps → MayHaveVariable side_of steps
 
--- A set may occur at the end of this path in an expression with this role: if the last step is one
--- to a part that may be a set (`IsToSet`); alone as a condition; or on the right side of an
--- assignment to a set, if each step is one of those of `IsOfMembers`.
+-- A set may occur at the end of this path in an expression with this role: if the last step is to
+-- an operand or the condition of `$`, to an operand of `not`, `and`, `or` or `xor`, or to the
+-- condition of a fold (`IsToSet`); as a whole condition; or on the right side of an assignment to a
+-- set, if each step is to an operand of a sign, a sum, a product, a power or `not`, or to the left
+-- operand of `$` (`IsOfMembers`).
 pub data MayHaveSet : Role → List ExpressionStep → Type 0 where
   as_operand : {role : Role} {last : ExpressionStep} (steps : List ExpressionStep) → IsToSet last → MayHaveSet role (steps ++ last ∷ [])
   alone : MayHaveSet condition_of []

@@ -45,25 +45,25 @@ module _ {F : Type 0} where
 
   module _ (limit : ℕ) (value : F → Number) (source : List ℕ) where
     -- the parser's function `expression` reads this expression from a prefix of the first tokens,
-    -- after which the second ones remain: in numbers, it is the expression that the prefix means;
-    -- reading goes from the first state to the second
+    -- after which the second ones remain: with its values replaced by the numbers that they mean,
+    -- it is the expression that the prefix means; reading goes from the first state to the second
     abbrev pub IsExpression : ExpressionState → ExpressionState → Tokens → Tokens → Expr F → Type 0
     IsExpression = IsRead limit source Expression (λ names labels tree part. in_numbers value (tree_of part) ≡ trees.expression source names labels tree)
 
     -- the parser's function `primary` reads this expression from a prefix of the first tokens,
-    -- after which the second ones remain: in numbers, it is the operand that the prefix means;
-    -- reading goes from the first state to the second
+    -- after which the second ones remain: with its values replaced by the numbers that they mean,
+    -- it is the operand that the prefix means; reading goes from the first state to the second
     abbrev pub IsPrimary : ExpressionState → ExpressionState → Tokens → Tokens → Expr F → Type 0
     IsPrimary = IsRead limit source Primary (λ names labels tree part. in_numbers value (tree_of part) ≡ trees.primary source names labels tree)
 
     -- the parser's function `control` reads this control from a prefix of the first tokens, after
-    -- which the second ones remain: in numbers, it is the control that the prefix means; reading
-    -- goes from the first state to the second
+    -- which the second ones remain: with its values replaced by the numbers that they mean, it is
+    -- the control that the prefix means; reading goes from the first state to the second
     abbrev pub IsControl : ExpressionState → ExpressionState → Tokens → Tokens → Control F → Type 0
     IsControl = IsRead limit source ControlPart (λ names labels tree part. control_in_numbers value (control_tree part) ≡ trees.control source names labels tree)
 
     -- the parser's function `target` reads this left side from a prefix of the first tokens, after
-    -- which the second ones remain: in numbers, it is the left side that the prefix means; reading
-    -- goes from the first state to the second
+    -- which the second ones remain: with its values replaced by the numbers that they mean, it is
+    -- the left side that the prefix means; reading goes from the first state to the second
     abbrev pub IsTarget : ExpressionState → ExpressionState → Tokens → Tokens → Target F → Type 0
     IsTarget = IsRead limit source TargetPart (λ names labels tree part. meant_target value part ≡ trees.target source names labels tree)

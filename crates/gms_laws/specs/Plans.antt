@@ -58,7 +58,8 @@ module _ {F : Type 0} (number_of : F → Number) (limit : ℕ) (question : Quest
       holds_for number_of limit question.state (bound_to equation element) equation.condition ≡ Ok true → SidesCompare number_of limit question.state plan equation (bound_to equation element)
 
   -- A plan, which gives each element of a variable a number, is feasible: it satisfies each
-  -- equation of the model, and each element that the solve lists (`listed`) is within its bounds.
+  -- equation of the model, and each element in `listed` (the elements in rows of the model, and the
+  -- objective) is within its bounds.
   pub record IsFeasible (plan : Plan) : Type 0 where
     pub equations : All (Satisfies plan) (definitions_of_model question.statements question.model)
     pub bounds : KeepsBoundsOf question.state plan question.listed

@@ -9,17 +9,18 @@ ghost use Rattle.gms_laws.specs.Assignments.{Execution, HasAttribute, IsComplete
 
 use gq_field::ExactField;
 
-/// The data of the assigned name at a tuple after an assignment, in a run of an accepted program.
+/// The data of the assigned name at a tuple after an assignment without a fault, in a run of an
+/// accepted program.
 ///
-/// An element has a member of each set of the left side that no loop controls. The left side takes
-/// an element to a tuple if the condition holds for the element, and the indices, under the binding
-/// of the sets to its labels, give the labels of the tuple. At most one element is taken to a tuple
-/// (`one`). If there is one, the right side under that element is what the name has at the tuple: a
-/// parameter its value (`value`), a set whether the tuple is a member (`member`), a variable or an
-/// equation the attribute that the left side names (`attribute`). If there is none, the data at the
-/// tuple are as before (`kept`). All values are read in the state before the assignment. Each name
-/// that stands for another symbol is as before (`others`; an alias stands for its set), and so are
-/// the settings (`settings`).
+/// An element has a member of each set on the left side that no loop controls. The left side takes
+/// the element to a tuple if the condition, if any, holds for the element, and the indices, where
+/// these sets have the labels of the element, give the labels of the tuple. At most one element is
+/// taken to a tuple (`one`). If one is, the right side for this element is what the name then has
+/// at the tuple: a parameter its value (`value`), a set whether the tuple is a member (`member`), a
+/// variable or an equation the attribute that the left side names (`attribute`). If none is, the
+/// data at the tuple are as before (`kept`). The right side is read in the state before the
+/// assignment. The data of other symbols (an alias names its set) are as before (`others`), and so
+/// are the settings (`settings`).
 ///
 /// GAMS User's Guide, "Data Manipulations with Parameters", indexed assignments; "Dynamic Sets";
 /// "Variables".

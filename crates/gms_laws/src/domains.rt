@@ -12,14 +12,16 @@ ghost use Rattle.gms_laws.specs.Domains.{HasItsMembers, IsWhereItHolds};
 
 use gq_field::ExactField;
 
-/// The domain of a fold, a loop or a left side over sets of one dimension. It is in the order of
-/// tuples (label by label, by number), so each tuple is in it once. It has exactly the tuples that
-/// have a member of each set at the position of that set, and for which the condition holds (GAMS
-/// User's Guide, "Data Manipulations with Parameters", indexed operations; "Conditional
-/// Expressions, Assignments and Equations", dollar control).
+/// The domain of a fold, a loop or a left side, if no fault occurs: a list of tuples, strictly
+/// sorted by the number of the label at the first position at which they differ (`in_order`). A
+/// tuple is listed exactly if it has one label for each controlled set, a member of that set, and
+/// the condition, if any, holds (`exact`). GAMS User's Guide, "Data Manipulations with Parameters",
+/// indexed operations; "Conditional Expressions, Assignments and Equations", dollar control.
 ///
-/// The laws assume sets of one dimension, as in each state that a run of an accepted program
-/// reaches; `exact` also assumes at most 10 sets, the most that a domain has.
+/// Both laws assume that the stored members of each of the sets have one label each and are
+/// strictly sorted by the label's number. This holds of a one-dimensional set in each state that a
+/// run of an accepted program reaches. `exact` also assumes at most 10 sets, the most that a fold,
+/// a loop or a left side may have.
 pub fn domain_laws<F: ExactField>()
     ensures in_order { (state : State) (binding : Pairs) (at : Place) (control : Control F) (found : List (List ℕ)) →
         All (IsSimple state) (sets_of control) → domain F.value F.limit state binding at control ≡ Ok found → IsOrdered found }

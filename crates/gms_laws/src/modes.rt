@@ -23,18 +23,18 @@ ghost use Rattle.gms_laws.specs.Modes.{IsInItem, IsExpected, IsAfterElement, IsL
 /// Where in a statement the next token is, by the tokens before it (GAMS User's Guide, "GAMS
 /// Programs", data declarations and lists).
 ///
-/// After a `;` the next token is read as code, that is, outside of declarations (`code`). After the
+/// After a `;` the next token is read as code, that is, outside declarations (`code`). After the
 /// keyword of a declaration an item begins (`declaration`), and after the keyword `table` a table's
-/// name (`table`). A word where an item begins, if no keyword, is its name (`name`); a comma or a
-/// line end ends the item, and the next one begins (`item`); a `/` begins its list (`list`), and
-/// the `/` after an element ends the list (`list_end`). In a list a comma or a line end ends an
-/// element, and the next one is expected (`element`). A label is followed by the text or value of
-/// its element, or joined to another by a dot or a star (`label`, `joined`).
+/// name (`table`). A word where an item begins, if no keyword, is the item's name (`name`). After
+/// an item's name, domain, text or list, a comma or a line end begins the next item (`item`), a `/`
+/// a list (`list`). In a list, outside parentheses, after a label or in the text or value of an
+/// element, a `/` ends the list (`list_end`), a comma or a line end the element (`element`). After
+/// a label (`label`), a `.`, `..`, `*` or `**` joins another label to it (`joined`).
 ///
-/// Where a label is expected, each token is a label or a symbol (`labels`), and none is a number
-/// (`never_numbers`): `1990` is a label there. After an element of a parameter and a blank a value
-/// is expected: each token there is read as in code, so that `1990` is a number (`value`), and
-/// after a number the element's value is complete (`number`).
+/// Where a label is expected, each token with text is a label or symbol (`labels`), none a number
+/// (`never_numbers`): `1990` is a label there. After the labels of a parameter's element and a
+/// blank, each token with text is read as in code (`value`), so that `1990` is a number, the
+/// element's value. After a number the value is complete (`number`).
 pub fn mode_laws()
     ensures code { (mode : Mode) (text : List ℕ) → mode_after mode (Token (Symbol Semicolon)) text ≡ Code }
     ensures declaration { (text : List ℕ) (shape : Shape) → keyword_of text ≡ Some (Declarer shape) → mode_after Code (Token Word) text ≡ Item shape }
@@ -62,21 +62,22 @@ pub fn mode_laws()
     ensures number { (text : List ℕ) → mode_after (Element Parameter 0 Spaced) (Token Number) text ≡ Tail Parameter }
 {}
 
-/// Where the next token is in a domain, in parentheses of a list, and in a table (GAMS User's
-/// Guide, "GAMS Programs", data declarations, lists and tables).
+/// How tokens change the mode in a domain, in parentheses of a list, and in a table (GAMS User's
+/// Guide, "GAMS Programs", data declarations, lists and tables). A mode is where in a statement the
+/// next token is.
 ///
-/// A `(` after the name of an item or of a table begins its domain (`domain`). In the domain each
+/// A `(` after the name of an item or a table begins its domain (`domain`). In the domain each
 /// token except `)` and `;`, even a keyword, leaves the mode as it is (`in_domain`); a `)` ends the
 /// domain (`domain_end`). In a list a `(` where a label is expected opens parentheses (`opened`),
-/// and a `)` closes them (`closed`); within them each token is a label or a symbol (`labels`), and
-/// after a comma a label is expected (`comma`). A line end within parentheses ends nothing
-/// (`lines`).
+/// which may be nested; a `)` closes the innermost ones (`closed`). In parentheses each token with
+/// text is a label or a symbol (`labels`), and after a comma a label is expected (`comma`). In
+/// domains and parentheses a line end ends nothing (`lines`).
 ///
 /// A word other than a keyword after `table` is the table's name (`table_name`). A text may follow
-/// the name or the domain (`table_text`), and after a line end the lines of the table begin
-/// (`table_lines`). After a line the next one may follow (`table_line`). No line of a table begins
-/// with the keyword of a statement (`never_statements`): the keyword of a declaration ends the
-/// table (`table_end`).
+/// the name or the domain (`table_text`). A line end after the name, domain or text begins the
+/// table's lines (`table_lines`). After a table line another may follow (`table_line`). No table
+/// line begins with the keyword of a statement (`never_statements`). The keyword of a declaration
+/// ends the table, and an item of that declaration is next (`table_end`).
 pub fn place_laws()
     ensures domain { (named inside after : Mode) (text : List ℕ) →
         HasDomain named inside after → mode_after named (Token (Symbol LeftParen)) text ≡ inside }

@@ -14,14 +14,18 @@ ghost use Rattle.gms_laws.specs.Places.{IsPlaceOf};
 
 use gq_field::ExactField;
 
-/// Where a variable and a set occur in a program without compile errors.
+/// Where references to variables and to sets, without suffix, occur in a program without compile
+/// errors. A reference is an expression that is a name, perhaps with indices: in
+/// `sum(i, x(i)$s(i))` these are `x(i)` and `s(i)`, but no `i`.
 ///
-/// A variable without suffix occurs only in a side of an equation's definition, and there in no
-/// condition, no operand of a relation or of a logical operator, and no lag (`variables`). A set
-/// occurs only as an operand or a condition of `$`, as an operand of `not`, `and`, `or` or `xor`,
-/// alone as a condition, or on the right side of an assignment to a set (`sets`). There it is the
-/// whole side or, at any depth, an operand of a sign, a sum, a product, a power or `not`, or the
-/// left operand of `$`.
+/// A reference to a variable occurs only in a side of an equation's definition, and there in no
+/// condition, no operand of a relation or a logical operator, and no amount of a lag (`variables`).
+/// A reference to a set occurs only in these ways (`sets`):
+/// - in any expression, as the left operand or a condition of `$`, or as an operand of `not`,
+///   `and`, `or` or `xor`;
+/// - as the whole condition of a fold or statement;
+/// - on the right side of an assignment to a set, as the whole side or inside signs, `+`, `-`, `*`,
+///   `/`, powers, `not` and left operands of `$` alone.
 ///
 /// GAMS User's Guide, "Data Manipulation"; "Equations"; "Conditional Expressions, Assignments and
 /// Equations"; "Dynamic Sets".
@@ -36,9 +40,9 @@ pub fn occurrence_laws<F: ExactField>()
         declared_kind (declared_before F.value program before) name ≡ kind.Set → MayHaveSet role steps }
 {}
 
-/// The error of a statement is at a place that the statement has in the source: its own, or that of
-/// a name, a word, an operand, a reference, a call, a fold, an amount of a lag, a domain set, an
-/// item of data or an option's value in it, or in a statement of its body.
+/// The compile error of a statement is at one of these places in the source: that of the statement;
+/// that of a name, word, side, operand, reference, call, fold, lag amount, domain set, item of data
+/// or option's value in it; or such a place of a statement in its body.
 ///
 /// GAMS User's Guide, "GAMS Output", compilation errors.
 pub fn error_places<F: ExactField>()

@@ -12,17 +12,17 @@ ghost use Rattle.gms_laws.specs.Parts.{Tokens, Derivation, EndAlike, IsExpressio
 
 use gq_field::ExactField;
 
-/// Reading an expression, an operand, a control or a left side from tokens has one result or one
-/// first fault: never both, and never neither (GAMS User's Guide, "GAMS Output", compilation
+/// Reading a part (an expression, an operand, a control or a left side) from tokens has one result
+/// or one first fault: never both, and never neither (GAMS User's Guide, "GAMS Output", compilation
 /// errors).
 ///
-/// `n` is a nonterminal of the grammar; four nonterminals, for an expression, an operand
-/// (`primary`), a control and a left side (`target`), have a function that reads them. The state of
-/// a reading is how many parentheses are open, the names and labels, and whether the last token was
-/// a dot. `before` is the state after the tokens before the part, and `after` the one after its
-/// tokens; `rest` are the tokens after it. Two readings of the same tokens from the same state
-/// `before` have equal results, `after` and `rest`. A result is compared by the numbers that it
-/// means, in whatever field they are stored.
+/// `n` is a nonterminal of the grammar; those for an expression, an operand (`primary`), a control
+/// and a left side (`target`) have a function that reads them. The state of a reading is how many
+/// parentheses are open, the names and the labels so far, and whether the last token was a dot.
+/// `before` is the state before the first token of the part, and `after` the one after its last;
+/// `rest` are the tokens after the part. Two readings of the same tokens from the same state
+/// `before` have equal results, equal `after` and equal `rest`. Results are compared with each
+/// value of the field `F` replaced by the number that it means.
 pub fn part_laws<F: ExactField>()
     ensures one_part { (limit : ℕ) (source : List ℕ) (n : Nonterminal) (before after later : ExpressionState)
         (tokens rest others : Tokens) (one other : Derivation) →

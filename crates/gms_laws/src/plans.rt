@@ -20,20 +20,20 @@ ghost use Rattle.lp_slot.specs.declared.solver.SolverRule.{SolverRule};
 use gq_field::ExactField;
 
 /// In the run of an accepted program what each answer states is true of the model as it is written,
-/// with the data at the moment of the solve. Each solve must have an answer of its linear program,
-/// by the pivot rule of its solver. The levels are those of the answer. A plan gives each element
-/// of a variable a number; it is feasible if it satisfies every equation of the model, at each
-/// element of its sets for which its condition holds, and the bounds of each listed element of a
-/// variable. *Optimal*: the levels are feasible, and no feasible plan has a better objective.
-/// *Infeasible*: no plan is feasible. *Unbounded*: the levels are feasible, and for each number
-/// some feasible plan has a better objective than that. *Interrupted* in phase 2: the levels are
-/// feasible.
+/// with the data at the solve. This requires that each solve has an answer of its linear program,
+/// by the pivot rule of its solver.
 ///
-/// The listed elements are those that occur in a row, and the objective. What is stated of levels
-/// holds of each plan that has them at the listed elements, with any levels elsewhere.
+/// A plan gives each element of a variable a number. It is feasible if it satisfies each equation
+/// of the model, at each element of the equation's sets for which the equation's condition holds,
+/// and the bounds of each listed element. The listed elements are those of variables that occur in
+/// a row of the model, and the objective. An answer's levels are of the listed elements; what it
+/// states of them holds of each plan that has them. *Optimal*: the levels are feasible, and no
+/// feasible plan has a better objective. *Infeasible*: no plan is feasible. *Unbounded*: the levels
+/// are feasible, and for each number some feasible plan has an objective better than it.
+/// *Interrupted* in phase 2: the levels are feasible. Other answers state nothing.
 ///
-/// This holds of the run of a program from its start (`start`); of the run of a file from a save,
-/// whose statements are the last ones of the joint program of the saved source and the file
+/// This holds of the run of a program from its start (`start`); of the run of a file without errors
+/// from a save: of the last statements of the joint program of the saved source and the file
 /// (`restarted`); and of the run of the last statements of a program from any state in which a run
 /// may begin (`begun`).
 ///

@@ -12,9 +12,9 @@ use gq_field::ExactField;
 /// The lines of a table have one list of entries or one first fault: never both, and never neither
 /// (GAMS User's Guide, "Data Entry: Parameters, Scalars and Tables").
 ///
-/// An entry is compared by the number that it means, in whatever field it is stored (`seen`).
 /// `before` is the list of the source's labels when the reading of the table begins, and `after`
-/// the list when it has ended.
+/// the only list with which it can end. Entries that are read store values of `F`. If each value is
+/// replaced by the number that it means, they are the entries of the lines (`seen`).
 pub fn table_laws<F: ExactField>()
     ensures seen { (lines : List TableLine) (before after : List (List ℕ)) (entries : List (Entry F)) →
         IsTable F.limit F.value lines before after entries → HasEntries F.limit lines before after (map (meant_entry F.value) entries) }

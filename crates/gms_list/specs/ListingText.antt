@@ -188,8 +188,8 @@ module _ (names labels : List (List ℕ)) where
   abbrev pub further_pairs : Pairs → List ℕ
   further_pairs pairs = flat_map (λ pair. codes "," ++ pair_text pair) pairs
 
-  -- the text of the sets that are controlled at a stop, each with its label; empty if there are
-  -- none
+  -- the text of these sets, which are controlled where a run stops by a fault, each with its label;
+  -- empty if there are none
   abbrev pub pairs_text : Pairs → List ℕ
   pairs_text [] = []
   pairs_text (pair ∷ pairs) = codes " with " ++ pair_text pair ++ further_pairs pairs
@@ -211,7 +211,8 @@ module _ (names labels : List (List ℕ)) where
   event_text limit answers (stops fault) = stop_text fault
   event_text limit answers (solves solved) = flat_map (solve_text names labels limit solved) (option_to_list (slice_get answers solved.answer))
 
-  -- the text of events, in order
+  -- the text of the events of a run, in order; `answers` are the answers for the solves of the run,
+  -- and `limit` bounds the numerators and denominators of the numbers that the run computes with
   abbrev pub events_text : ℕ → List (Answer Number) → List Event → List ℕ
   events_text limit answers events = flat_map (event_text limit answers) events
 

@@ -53,7 +53,7 @@ abbrev pub number_magnitude : Number → Number
 number_magnitude x = if is_negative x.numerator then neg_ℚ x else x
 
 -- the text of a number in a column of a table: a blank, and the number with three decimals,
--- right-aligned in 12 characters; 0 is a dot
+-- right-aligned in 12 characters; a number that is exactly 0 is a dot
 abbrev pub cell : Number → List ℕ
 cell x = codes " " ++ right_in 12 (if is_zero_amount x then codes "." else amount x)
 
@@ -121,14 +121,14 @@ solution_of objective end = None
 
 -- ---- steps
 
--- The text of the step at which a solver refused, with the numbers that locate it. `part` is 0 for
--- a product or a quotient and 1 for a sum or a difference, except that in `Check` it counts steps
--- from 0. In `Standard` the row is of the standard form and the column of the program; other rows
--- are of the dictionary. In `Exchange` the row after the last is the objective, and `column` is 0
--- for the constant and v + 1 for variable v. In `Recover` `what` is a list of the answer (0: levels
--- of columns, 1: levels of rows, 2: duals, 3: reduced costs, 4: the ray), `index` is a position in
--- it, and `entry` is an entry of a row if `what` is 1, else 0; both count from 0. Other numbers
--- count from 1.
+-- The text of the step at which a solver refused, with the numbers that locate it. In `Standard`
+-- the row is of the standard form, the column of the program, both from 1. Pivots and other rows,
+-- of the dictionary, count from 1. In `Exchange` the row after the last is the objective, column 0
+-- the constant, and column v + 1 variable v. In `Recover` `what` is a list of the answer (0: levels
+-- of columns, 1: levels of rows, 2: duals, 3: reduced costs, 4: the ray), `index` a position in it,
+-- from 0, and `entry`, from 0, an entry of the row if `what` is 1, else 0. In `Check` `part` is the
+-- step's number, from 0; elsewhere it is 0 for a product or a quotient, 1 for a sum or a
+-- difference.
 abbrev pub step_text : StepName → List ℕ
 step_text (step.Standard row column part) =
     codes "Standard row " ++ decimal row ++ codes " column " ++ decimal column ++ codes " part " ++ decimal part
@@ -156,9 +156,9 @@ bound_line (Some part) bound = line_of (codes "  bound not shown, Check part " +
 bound_line None (Some bound) = line_of (codes "  bound " ++ exact_text bound)
 bound_line None None = []
 
--- the line of the bound that `duals` prove: if `with_objective`, the bound of the objective,
--- otherwise the lower bound of a sum whose costs are all 0. If a step of computing the bound has a
--- numerator or denominator above `limit`, the line names the first such step instead
+-- the line of the bound that `duals` prove: if `with_objective`, that of the objective, else the
+-- lower bound of a sum whose costs are all 0; empty if they prove none. But if a step of computing
+-- the bound has a numerator or denominator above `limit`, the line names the first such step
 abbrev pub bound_lines : ℕ → Lp Number → List Number → Bool → List ℕ
 bound_lines limit lp duals with_objective =
     bound_line (first_unfit (bound_steps_fit limit lp duals with_objective)) (objective_bound (λ x. x) with_objective lp duals)
@@ -207,11 +207,11 @@ module _ (names labels : List (List ℕ)) (limit : ℕ) (lp : Lp Number) where
   abbrev pub placed_columns : List (ℕ × Column Number)
   placed_columns = enumerate_from 0 lp.columns
 
-  -- the rows of an equation with their indices
+  -- the rows of an equation, each with its index among all rows of the linear program
   abbrev pub rows_of_equation : ℕ → List (ℕ × Row Number)
   rows_of_equation equation = filter (λ (p : ℕ × Row Number). p.1.key.symbol == equation) placed_rows
 
-  -- the columns of a variable with their indices
+  -- the columns of a variable, each with its index among all columns of the linear program
   abbrev pub columns_of_variable : ℕ → List (ℕ × Column Number)
   columns_of_variable variable = filter (λ (p : ℕ × Column Number). p.1.key.symbol == variable) placed_columns
 
@@ -328,14 +328,15 @@ module _ (names labels : List (List ℕ)) (limit : ℕ) (lp : Lp Number) where
   row_number_lines word numbers = flat_map (λ (p : ℕ × Row Number). number_line word p.1.key (number_at_place numbers p.0)) placed_rows
 
   -- the lines that prove that no point is feasible: for Some j the line of column j, whose bounds
-  -- cross; for None the combination of rows with the factors `duals`, and its bound
+  -- cross; for None a line for each row whose factor in `duals` is not 0, and the lower bound that
+  -- the factors prove of a sum whose costs are all 0
   abbrev pub infeasible_text : List Number → Option ℕ → List ℕ
   infeasible_text duals (Some j) = flat_map (crossed_line names labels) (option_to_list (slice_get lp.columns j))
   infeasible_text duals None = row_number_lines (codes "row") duals ++ bound_lines limit lp duals false
 
-  -- the lines of the certificate of an end. An interrupted or refused end has none; its lines tell
-  -- its phase, its number of pivots and its levels, or the step that was refused. `pivots` is how
-  -- many pivots the solver made
+  -- the lines of an end: for Optimal, Infeasible and Unbounded the certificate; for Interrupted the
+  -- phase, the number of pivots and the levels; for Refused the step that was refused. `pivots` is
+  -- how many pivots the solver made
   abbrev pub proof_text : ℕ → End Number → List ℕ
   proof_text pivots (Optimal levels row_levels duals reduced) =
       line_of (codes "PROOF Optimal") ++ column_number_lines (codes "level") levels ++ row_number_lines (codes "marginal") duals

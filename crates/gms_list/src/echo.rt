@@ -38,11 +38,9 @@ impl Listing {
         self.echo_from(alloc, source, 1)
     }
 
-    /// Appends the lines of a source, each after its line number; the first line has the number
-    /// `line`.
-    ///
-    /// A carriage return before a line feed is dropped, and a missing line end of the last line is
-    /// supplied; all other bytes are unchanged.
+    /// Appends the lines of `source`, each after its number, which is `line` for the first. A
+    /// carriage return before a line feed is dropped, and a missing last line feed is supplied;
+    /// other bytes stay. If memory runs out, a prefix is appended.
     pub fn echo_from(&mut self, alloc: Global, source: &[u8], line: u32) -> Result<(), AllocError>
         ensures { Appends result self.old self.new (echo_text line source.now) }
     {

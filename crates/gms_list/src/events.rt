@@ -17,14 +17,14 @@ use lp_core::Answer;
 use std::alloc::{AllocError, Global};
 
 impl Listing {
-    /// Appends the text of the event `e` of a run of the program `p`. The solves of the run have
-    /// these answers, in order. The run computes with numbers whose numerators and denominators are
-    /// at most 2^127 - 1.
+    /// Appends the text of the event `e` of a run of the program `p` or, out of memory, a prefix of
+    /// it. `answers` are the answers of the run's solves, in order; a solve without one has no
+    /// text. Numerators and denominators are at most 2^127 - 1.
     ///
-    /// Each item that a display or an abort shows must have at most 8 decimals. The linear program
-    /// of a solve must be well-formed. If the solve's answer is optimal, infeasible or unbounded,
-    /// it must have a certificate; if it was interrupted in phase 2, it must have a level for each
-    /// column and row.
+    /// Each item of a display or an abort must have at most 8 decimals. The linear program of a
+    /// solve must be well-formed. Its answer, if any, must have a certificate if it is optimal,
+    /// infeasible or unbounded, and a level for each column and row if it is interrupted in phase
+    /// 2.
     pub fn event(
         &mut self,
         alloc: Global,

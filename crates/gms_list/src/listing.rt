@@ -7,10 +7,9 @@ use gms_fmt::{left, right};
 use std::alloc::{AllocError, Global};
 use std::marker::Model;
 
-/// The text of a listing so far.
+/// The text so far of a listing (GAMS User's Guide, "GAMS Output").
 ///
-/// A method that appends puts the text of its arguments at the end; if memory runs out, it puts a
-/// prefix of this text there. GAMS User's Guide, "GAMS Output".
+/// A method that appends adds a text at the end; if memory runs out, it adds a prefix of this text.
 #[derive(Debug)]
 pub struct Listing {
     pub(crate) text: Vec<u8>,

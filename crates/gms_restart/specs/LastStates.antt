@@ -19,10 +19,9 @@ abbrev pub last_state : {F : Type 0} → (F → Number) → ℕ → World F → 
 last_state value limit world answers = (whole_run value limit world answers).state
 
 -- The last state of the run that resumes from the saved state `state`. The program of `world` is
--- joint: that of a saved source followed by a new file. Executed are those of its statements that
--- begin at the line `from`, the first of the file, or after it, with these answers for the solves,
--- under the limit `limit` of the size of numbers. `value` gives the number that a value of `F`
--- means.
+-- joint: a saved source followed by a new file. The run executes the statements that begin at or
+-- after the line `from`, the first of the file, with these answers for the solves, under the limit
+-- `limit` of the size of numbers. `value` gives the number that a value of `F` means.
 abbrev pub later_state : {F : Type 0} → (F → Number) → ℕ → ℕ → World F → State → List (Answer Number) → State
 later_state value limit from world state answers = (restarted_run value limit from world state answers).state
 
@@ -35,8 +34,8 @@ NumbersFit most state = (name : ℕ) (t : List ℕ) → fits_at most (symbol_at 
 -- assign the same names, in the same order, as those of the program `saved`, and `whole` has at
 -- least as many labels as `saved`. The first state of `whole` has at least as many names as that of
 -- `saved`, the same settings, and for each name that the latter declares the same symbol, with its
--- data. In its first state (`loaded`) a program has all its names declared, with their data.
--- `value` gives the number that a value of `F` means.
+-- data. A program's first state (`loaded`) has all its names declared, with their data. `value`
+-- gives the number that a value of `F` means.
 pub record ContinuesSaved {F : Type 0} (value : F → Number) (saved whole : Program F) (firsts others : List (Stmt F)) : Type 0 where
   pub statements : whole.statements.items ≡ firsts ++ others
   pub assigns : flat_map assigned_names firsts ≡ flat_map assigned_names saved.statements.items

@@ -17,17 +17,17 @@ module _ {F : Type 0} (value : F → Number) (limit : ℕ) where
   whole_run world answers = run_from value limit world (loaded value world.program) answers world.program.statements.items
 
   module _ (from : ℕ) where
-    -- the run of the first statements of a joint program, that of a saved source followed by a new
-    -- file: the statements that begin before the line `from`, the first of the file. The run begins
+    -- the run of the first statements of a joint program, a saved source followed by a new file. It
+    -- executes the statements that begin before the line `from`, the first of the file. It begins
     -- in the first state of the joint program (`loaded`). `answers` are the answers for its solves,
     -- `limit` bounds the size of numbers, and `value` gives the number that a value of `F` means
     abbrev pub base_run : World F → List (Answer Number) → Course
     base_run joint answers =
         run_from value limit joint (loaded value joint.program) answers (take (length (saved_statements from joint.program)) joint.program.statements.items)
 
-    -- the restarted run of a joint program, that of a saved source followed by a new file: the
-    -- statements that begin at the line `from`, the first of the file, or after it. The run begins
-    -- in the saved state `state`, to which the names that only the joint program declares are added
+    -- the restarted run of a joint program, a saved source followed by a new file. It executes the
+    -- statements that begin at or after the line `from`, the first of the file. It begins in the
+    -- saved state `state`, to which the names that only the joint program declares are added
     -- (`resumed`). `answers` are the answers for its solves, `limit` bounds the size of numbers,
     -- and `value` gives the number that a value of `F` means
     abbrev pub restarted_run : World F → State → List (Answer Number) → Course
@@ -35,10 +35,10 @@ module _ {F : Type 0} (value : F → Number) (limit : ℕ) where
         run_from value limit joint (resumed value state joint.program) answers (drop (length (saved_statements from joint.program)) joint.program.statements.items)
 
     -- `answers` are those of a saved run of the program of `saved`, and `further` those of a
-    -- restarted run. One long run of the program of `joint`, with `answers` followed by `further`,
-    -- is the run of the program's statements before the line `from` (`base_run`) followed by the
-    -- restarted run from the last state of the saved one. The statements before `from` use as many
-    -- answers as `answers` has.
+    -- restarted run. One long run of the joint program, with `answers` followed by `further`, is
+    -- the run of its statements before the line `from` (`base_run`) followed by the restarted run
+    -- from the last state of the saved run. The statements before `from` use as many answers as
+    -- `answers` has.
     pub record SaysTheSame (saved joint : World F) (answers further : List (Answer Number)) : Type 0 where
       pub is : whole_run joint (answers ++ further)
           ≡ run_after (base_run joint (answers ++ further)) (restarted_run joint (whole_run saved answers).state further)

@@ -37,29 +37,30 @@ ghost use Rattle.lp_core.specs.declared.answer.Answer.{Answer};
 
 use gq_field::ExactField;
 
-/// Let a file resume from a saved state, and let the joint source, which is the saved source
-/// followed by the file, be a program. Then the state from which the file resumes declares each
-/// name as the joint program does: with the same number of positions and, for an alias, as an alias
-/// of the same set (GAMS User's Guide, "Save and Restart", "Set Definition").
+/// Let the saved source, and the joint source (the saved source, a line with `;` and a file), be
+/// programs. A run of the file resumes from a saved state of the saved program, extended by the
+/// names that only the joint program declares. The extended state declares each name as the joint
+/// program does: with as many positions and, for an alias, as an alias of the same set (GAMS User's
+/// Guide, "Save and Restart", "Set Definition").
 pub fn fits_laws()
     ensures fits { (saved file : List ℕ) (first whole : Program Frac) (state : State) (solver : List ℕ) →
         IsProgram frac_limit saved frac_value first → IsProgram frac_limit (joint_source saved file) frac_value whole →
         IsSavedBy first state solver → (name : ℕ) → IsAlike (resumed frac_value state whole) (declared_state whole) name }
 {}
 
-/// Let a saved source be a program, and let the joint source, which is the saved source followed by
-/// a file, be a program. Each statement of the saved program begins before the line at which the
-/// file begins. Each further statement of the joint program begins at that line or after it
-/// (`places`).
+/// Let a saved source be a program, and let the joint source, which is the saved source, a line
+/// with `;` and a file, be a program. The joint program has the statements of the saved program,
+/// each of which begins before the file's first line, followed by others, each of which begins at
+/// that line or after it (`places`).
 ///
-/// So a run of the file that is restarted from the saved state shows what one long run of the joint
-/// program shows for the statements of the file (`says`). Suppose that the saved program is
-/// accepted, that its run does not halt, and that its solves use all the answers given to this run.
-/// Suppose that the statements of the file have no error, and that the long run has the same
-/// solvers. Suppose that the long run, whose first answers are those of the saved run, executes the
-/// saved source's statements without a halt. Then the statements of the file show in the long run
-/// what they show in the restarted run: the same events, that is, displays, solves, aborts and
-/// faults, with the indices of their answers shifted by the number of answers of the saved run.
+/// A run of the file that is restarted from the last state of the saved run shows what one long run
+/// of the joint program shows for the statements of the file (`says`): the same displays, solves,
+/// aborts and faults. But the index of each solve's answer is greater in the long run, by the
+/// number of answers of the saved run. Each run has a list of solvers' answers for its solves. The
+/// long run's list has the answers of the saved run, then those of the restarted run. The law
+/// requires that the saved program is accepted, that its run does not halt, and that its solves use
+/// all answers of its list; that the statements of the file have no error; that both programs have
+/// the same solvers; and that the long run executes the saved source's statements without a halt.
 ///
 /// GAMS User's Guide, "Save and Restart".
 pub fn restart_laws()
@@ -80,16 +81,16 @@ pub fn restart_laws()
 /// table of labels, and each label is a member of the set at its position, if a set is declared
 /// there (`occur`). So if all numbers of the last state fit under the limit `most` (the numerator
 /// and the denominator of each are at most `most` in magnitude), this state is a saved state of the
-/// program (`saved`). Both clauses require that the labels in the program's indices and data are in
-/// the program's table, as they are in the program of a source (`own`).
+/// program (`saved`). `occur` and `saved` require that the labels in the program's indices and data
+/// are in the program's table, as they are in the program of a source (`own`).
 ///
 /// So if the program of a source has no compile errors, the last state of its run is a saved state
-/// of this program, whatever solvers the run has (`last`). A run of the joint program, of the saved
-/// source followed by a file, may begin in the state that is resumed from a saved state, so the
-/// laws of whole runs hold for this run (`begins`). The last state of such a run is a saved state
-/// of the joint program (`later`). The last two clauses require that the statements of the file
-/// have no error, and `last` and `later` that all numbers of the last state fit under `frac_limit`.
-/// The solver's name in a saved state is any text that has the form of such a name.
+/// of this program (`last`). The joint program is that of the saved source followed by a file. A
+/// run of it may begin in the state that is resumed from a saved state of the first program, so the
+/// laws of whole runs hold for it (`begins`). The last state of such a run of the file's statements
+/// is a saved state of the joint program (`later`). `begins` and `later` require that the
+/// statements of the file have no error, `last` and `later` that all numbers of the last state fit
+/// under `frac_limit`. The solver's name in a saved state is any text with the form of such a name.
 ///
 /// GAMS User's Guide, "Save and Restart"; "Set Definition", domain checking.
 pub fn valid_laws<F: ExactField>()
@@ -120,10 +121,10 @@ pub fn valid_laws<F: ExactField>()
         IsSavedBy world.program (later_state frac_value limit (first_line source) world state answers) named }
 {}
 
-/// Each element to which an assignment of an accepted program assigns has as many labels as the
-/// name of the element has positions. This holds in each state that statements of the program
-/// reach, also inside a loop, from a state in which a run may begin, at the start of the program or
-/// from a save. `assignment_laws` of gms_exec requires this.
+/// Each tuple of labels to which an assignment of an accepted program assigns has as many
+/// labels as the assigned name has positions. This holds in each state that statements of the
+/// program reach, also inside a loop. The statements begin in a state in which a run may begin, at
+/// the start of the program or from a save.
 ///
 /// GAMS User's Guide, "Data Manipulations with Parameters", indexed assignments; "Save and
 /// Restart".

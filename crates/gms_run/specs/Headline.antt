@@ -53,12 +53,12 @@ pub record IsErrorListing (solvers : List (List ℕ)) (source text : List ℕ) :
   pub some : compile_errors frac_value program solvers ≢ []
   pub listing : text ≡ errors_listing 1 source (compile_errors frac_value program solvers)
 
--- The source is a program without errors, and `text` is the listing of its run. The run takes all
--- answers: none remains. Each solve has an answer of the linear program that its model means at
--- that moment, with the certificate that proves it (`answered`). What each answer says of plans,
--- that is, of values for the variables, is true (`says_so`). With Done every statement was
--- executed, with Execution an execution error stopped the run. The listing is the text of the
--- events of the run, which echoes the source from line 1.
+-- The source is a program without compilation errors. Its run takes all answers of `solving`. Each
+-- solve has an answer of the linear program that its model means at that moment, with the
+-- certificate that proves it (`answered`). What each answer says of plans, that is, of values for
+-- the variables, is true (`says_so`). With Done every statement was executed, with Execution an
+-- execution error stopped the run. `text`, the listing, echoes the source from line 1 and shows the
+-- events of the run.
 pub record IsRunListing (status : Status) (solving : Solving) (source text : List ℕ) : Type 0 where
   pub program : Program Frac
   pub is_program : IsProgram frac_limit source frac_value program
@@ -97,10 +97,10 @@ HasListing WriteFault = ⊥
 abbrev pub file_alone : List ℕ → List ℕ → Asked
 file_alone file output = record { source = in_file file; output = output; save = None; ranges = false }
 
--- A run changes what is outside from `old` to `new` so: the whole listing of the source in a file
--- is written to the output, and the output is closed. Then the closing line is printed: the status,
--- how many answers there are, and the name of the output. Nothing else is changed outside, except
--- that the file is read. If the host hides its files, the source may be any bytes (`IsFileOf`).
+-- The run changes what is outside from `old` to `new`: it reads the file, writes the whole listing
+-- of the source in the file to the output, and closes the output. Then it prints the closing line:
+-- the status, the number of answers, and the name of the output. Nothing else changes outside. If
+-- the host hides its files, the source may be any bytes (`IsFileOf`).
 pub record WritesListing (status : Status) (solving : Solving) (old new : Outside) (file output : List ℕ) : Type 0 where
   pub source : List ℕ
   pub is_source : IsFileOf old file source

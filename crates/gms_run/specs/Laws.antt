@@ -31,9 +31,9 @@ RunsJoin = (to_run : ProgramToRun) (solving : Solving) (first others : List (Stm
 
 -- ---- answers
 
--- If a run with these solvers and answers, from its start or from a save, executed the input, then
--- each of its answers is right (`HasRightAnswers`): what it says is true of the model as it is
--- written, with the data at the moment of the solve.
+-- If a run with these solvers and answers executed the input, which is a source, or a save and the
+-- file that resumes from it, then each of the answers is right (`HasRightAnswers`): what the answer
+-- says is true of the model as it is written, with the data at the moment of the solve.
 abbrev pub RunIsAnsweredRightly : Solving → Type 0
 RunIsAnsweredRightly solving = (taken : RunInput) (loaded_input : LoadedInput) (text : List ℕ) → IsLoadedInput solving.before.names taken loaded_input → (run : IsExecuted solving loaded_input text) → HasRightAnswers run.to_run solving
 
@@ -59,21 +59,24 @@ pub record IsRestart (first second : Solving) (source file : List ℕ) : Type 0 
   pub run : IsExecuted second loaded_input listing
   pub same_solvers : second.before.names ≡ first.before.names
 
--- `long` is one run of the joint source of `source` and `file`, with the answers of both runs and
--- the same solvers; `to_run` is the program that it runs.
+-- `long` is one run of the joint source of `source` and `file`; `to_run` is the program that it
+-- runs. The solvers of `long` have the names of those of `first`, and the answers of `long` are
+-- those of `first` followed by those of `second`.
 pub record IsLongRun (first second long : Solving) (source file : List ℕ) (to_run : ProgramToRun) : Type 0 where
   pub is_to_run : IsProgramToRun long.before.names (scripted (script_of (joint_source source file))) to_run
   pub same_solvers : long.before.names ≡ first.before.names
   pub answers : long.answers ≡ first.answers ++ second.answers
 
--- the part of the long run that executes the statements of the saved source: those that begin
--- before the line of the joint source at which the file begins (`first_line`)
+-- the part of the long run, which is a run of a joint source, that executes the statements of the
+-- saved source (`source`). These are the statements that begin before line `first_line` of the
+-- joint source, where the file begins that continues the saved source
 abbrev pub base_course : List ℕ → ProgramToRun → Solving → Course
 base_course source to_run long = course_of (first_of (length (saved_statements (first_line source) to_run.program)) to_run) long
 
--- The long run is that of the saved source's statements, which take the answers of the saved run,
--- followed by the restarted run. Each save of the restarted run is one of the long run, so restarts
--- may follow one another.
+-- The long run is that of `to_run` with the answers of `long`. It is the run of the saved source's
+-- statements followed by the restarted run (`second`). These statements take as many answers as the
+-- saved run (`first`) has. Each save of the last state of the restarted run is also one of the last
+-- state of the long run.
 pub record SaysBoth (first second long : Solving) (source file : List ℕ) (restart : IsRestart first second source file) (to_run : ProgramToRun) : Type 0 where
   pub is : course_of to_run long ≡ run_after (base_course source to_run long) (course_of restart.run.to_run second)
   pub taken : (base_course source to_run long).taken ≡ length first.answers

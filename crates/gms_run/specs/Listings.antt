@@ -69,8 +69,8 @@ pub record ShowsRefusal (script : Script) (text : List ℕ) : Type 0 where
   pub refused : IsSourceFault frac_limit script.source fault
   pub listing : text ≡ refused_listing script.line script.file fault
 
--- The source is a program with errors, with solvers of the names `solvers`, and the text is the
--- listing of all of them.
+-- The source is a program that has errors if the solvers have the names `solvers`, and the text is
+-- the listing of all its errors.
 pub record ShowsErrors (solvers : List (List ℕ)) (script : Script) (text : List ℕ) : Type 0 where
   pub program : Program Frac
   pub is_program : IsProgram frac_limit script.source frac_value program
@@ -89,8 +89,8 @@ IsRefusalListing solving loaded_input text = ShowsWhy solving.before.names loade
 
 -- ---- listings
 
--- The loaded input is accepted, its program was run with these answers, and the text is the listing
--- of that run.
+-- The loaded input is accepted, its program was run with the solvers' answers, which `solving` has,
+-- and the text is the listing of that run.
 pub record IsExecuted (solving : Solving) (loaded_input : LoadedInput) (text : List ℕ) : Type 0 where
   pub to_run : ProgramToRun
   pub is_to_run : IsProgramToRun solving.before.names loaded_input to_run
@@ -121,9 +121,8 @@ IsWrittenPrefix solving loaded_input text written =
 
 -- ---- saves
 
--- The bytes are the save of the last state of the run, by the definition of saves. The solver that
--- the save names has the position that the state's settings have, so that `restore` with the same
--- solvers gives this state back.
+-- The bytes are the save of the last state of the run. Among the solvers, the one that the save
+-- names is at the position that the settings of this state have.
 pub record SavesLast (solving : Solving) (loaded_input : LoadedInput) (bytes : List ℕ) : Type 0 where
   pub to_run : ProgramToRun
   pub is_to_run : IsProgramToRun solving.before.names loaded_input to_run

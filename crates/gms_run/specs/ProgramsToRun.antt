@@ -46,10 +46,11 @@ abbrev pub course_of : ProgramToRun → Solving → Course
 course_of to_run solving =
     run_from frac_value frac_limit (record { program = to_run.program; solvers = solving.before.names }) to_run.state (numbers_of solving.answers) to_run.statements
 
--- The run takes all answers. Each solve has an answer of the linear program that its model means at
--- that point, under the rule of the solver that is chosen there. No search whose limit of pivots
--- is enough for that rule is interrupted. The paths of a solver are the lists of pivots of its
--- answers; the pivots of each answer are appended to the paths of its solver.
+-- The solves of the run use all answers of `solving`. Each has an answer of the linear program that
+-- its model means in the state before it, by the rule of the solver chosen in this state. The
+-- answer is not Interrupted if the solve's limit of pivots is at least the known bound of the
+-- pivots by this rule. A solver's paths are the lists of pivots of its answers; the pivots of each
+-- answer are appended to them.
 pub record IsRunSolved (to_run : ProgramToRun) (solving : Solving) : Type 0 where
   pub all_taken : (course_of to_run solving).left ≡ []
   pub answered : AreAnswered frac_value frac_limit solving.before.rules solving.answers (course_of to_run solving).events
@@ -87,8 +88,8 @@ last_line None solves = end_text 0 solves
 last_line (Some (stopped fault)) solves = end_text 3 solves
 last_line (Some waiting) solves = []
 
--- the text of what the statements show, and of the fault that stops them, as far as the answers
--- suffice
+-- the text of what the run of this program with the solvers' answers shows: its events, and the
+-- fault that stops it, if any. The run ends at a solve for which no answer remains
 abbrev pub shown_by : ProgramToRun → Solving → List ℕ
 shown_by to_run solving =
     events_text to_run.program.names to_run.program.labels frac_limit (numbers_of solving.answers) (all_events (course_of to_run solving))
@@ -97,8 +98,8 @@ shown_by to_run solving =
 abbrev pub body_of : ProgramToRun → Solving → List ℕ
 body_of to_run solving = echo_text to_run.line to_run.file ++ shown_by to_run solving
 
--- the listing of a program as far as the answers suffice: the echo, what the statements show, and
--- the last line
+-- the listing of a program: the echo, what the statements show, and the last line. If no answer
+-- remains for a solve, the listing ends at this solve, without a last line
 abbrev pub program_listing : ProgramToRun → Solving → List ℕ
 program_listing to_run solving = body_of to_run solving ++ last_line (course_of to_run solving).halted (length solving.answers)
 
@@ -115,18 +116,19 @@ save_text to_run solving =
 abbrev pub most_held : ℕ
 most_held = 4096
 
--- After a write fault `written` bytes of the listing of `to_run` are written. For some number
--- `before`, the solves of its first `before + 1` statements use all answers of `solving`. Of the
--- echo and the text that the first `before` statements show, at most the last 4,096 bytes
--- (`most_held`) are not written.
+-- After a write fault `written` bytes of the listing of `to_run` are written. For some `before`,
+-- the solves of the first `before + 1` statements of `to_run` use all answers of `solving`. Of the
+-- echo and what the first `before` statements show, at most the last 4,096 bytes (`most_held`) are
+-- not written.
 pub record IsWrittenUpTo (to_run : ProgramToRun) (solving : Solving) (written : ℕ) : Type 0 where
   -- how many statements are before the last executed one
   pub before : ℕ
   pub taken : (course_of (first_of (before + 1) to_run) solving).left ≡ []
   pub held : length (body_of (first_of before to_run) solving) ≤ written + most_held
 
--- only `written` bytes of a program's listing were written. Either nothing was solved; or the
--- listing of some first statements lacks at most its last 4,096 bytes, and the solves of these and
--- of one more statement use all answers (`IsWrittenUpTo`)
+-- Only the first `written` bytes of a program's listing were written. Either nothing was solved. Or
+-- for some n (`IsWrittenUpTo`) the solves of the first n + 1 statements use all answers of
+-- `solving`, and of the echo with the text of the first n statements at most the last 4,096 bytes
+-- are missing
 abbrev pub IsCutOff : ProgramToRun → Solving → ℕ → Type 0
 IsCutOff to_run solving written = SolvesNothing solving ⊎ IsWrittenUpTo to_run solving written

@@ -48,8 +48,9 @@ abbrev pub joint_script : List ℕ → State → List ℕ → Script
 joint_script saved state file =
     record { source = joint_source saved file; file = file; line = first_line saved; saved = Some state }
 
--- The script is that of the file after the source that was restored from the save, with solvers of
--- these names. The save is not too long.
+-- The script, a source to run, is the saved source followed by the file, and its run resumes from
+-- the saved state. `saved`, the saved source and state, is what `save` restores with solvers of
+-- these names. `save` has at most `most_save_bytes` bytes.
 pub record IsJoint (solvers : List (List ℕ)) (save file : List ℕ) (script : Script) : Type 0 where
   pub saved : Saved
   pub short : length save ≤ most_save_bytes
@@ -58,8 +59,10 @@ pub record IsJoint (solvers : List (List ℕ)) (save file : List ℕ) (script : 
   pub back : GivesBack solvers save (let r : Result Saved SaveFaultOrMemory = Ok saved in r)
   pub joint : script ≡ joint_script saved.source.items saved.store file
 
--- The save cannot be restored, with solvers of these names: it has this fault (`answer`). If it is
--- the save of a state, the fault is SaveTooLong or SaveSolver, and its cause holds (`back`).
+-- Restoring the save with solvers of these names gives this fault (`answer`). SaveTooLong: the save
+-- is longer than `most_save_bytes`. SaveShape: it is not the save of any state. SaveSolver: it is
+-- the save of a state, with a solver that has none of these names. `back` says that the fault is
+-- right for each state that has this save.
 pub record IsUnrestored (solvers : List (List ℕ)) (save : List ℕ) (fault : SaveFault) : Type 0 where
   pub answer : Restores solvers save (let r : Result Saved SaveFaultOrMemory = Err (Fault fault) in r)
   pub back : GivesBack solvers save (let r : Result Saved SaveFaultOrMemory = Err (Fault fault) in r)

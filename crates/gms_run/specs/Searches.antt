@@ -28,7 +28,8 @@ SearchEnds rules answers (solves solved) =
     IfSome (slice_get answers solved.answer) (λ answer. ¬ (IsInterrupted answer.end))
 SearchEnds rules answers event = Unit {0}
 
--- the search of each solve among the events ends, so its answer is not Interrupted, if its limit of
--- pivots is enough (`SearchEnds`)
+-- For each solve among the events: if its limit of pivots is at least the known bound of the pivots
+-- under its solver's rule (`IsEnough`), its answer is not Interrupted. `rules` are those of the
+-- solvers, and `answers` are those to the solves.
 abbrev pub SearchesEnd : List SolverRule → List (Answer Frac) → List Event → Type 0
 SearchesEnd rules answers events = All (SearchEnds rules answers) events

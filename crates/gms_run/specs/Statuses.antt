@@ -68,8 +68,8 @@ pub record SaysLine (old new : Meaning) (before : Outside) (line : List ℕ) : T
   pub beginning : PrintsPrefix before new.outside line
   pub whole : (new.outside ≡ with_said before line) ⊎ Rose old.counts.write_faults new.counts.write_faults
 
--- The file could not be read: its name was requested or not, and the input may be open or not, with
--- any bytes. Nothing else was done.
+-- The file could not be read: its name was appended to `asked`, the names by which files were
+-- opened, or not; the input may be open or not, with any bytes. Nothing else was done.
 abbrev pub IsUnread : Outside → Outside → List ℕ → Type 0
 IsUnread old new file =
     (new ≡ record old { input = new.input; reading = new.reading }) ⊎ (new ≡ record (with_asked old (file ∷ [])) { input = new.input; reading = new.reading })
@@ -95,12 +95,13 @@ pub record IsReadFault (old new : Meaning) (request : Asked) : Type 0 where
 abbrev pub with_listing : Outside → List ℕ → List ℕ → Outside
 with_listing o output text = with_output (with_opened o output) text
 
--- the host's state after this text was written to the output of this name, which is closed and kept
+-- the host's state after an output of this name was opened empty, this text was written to the
+-- output, and the output was closed and kept
 abbrev pub with_file : Outside → List ℕ → List ℕ → Outside
 with_file o output text = with_kept (with_listing o output text)
 
--- the output of this name could not be opened: no output is open (`false`), the bytes of this one
--- are empty, and its name was requested or not
+-- an output of this name could not be opened: no output is open (`false`), the bytes of the output
+-- are empty, and the name is appended to the requested names (`asked`) or not
 abbrev pub IsUnopenedFile : Outside → Outside → List ℕ → Type 0
 IsUnopenedFile old new name = (new ≡ with_emptied old false) ⊎ (new ≡ with_asked (with_emptied old false) (name ∷ []))
 
@@ -131,9 +132,9 @@ with_save o (Some name) bytes = with_file o name bytes
 abbrev pub with_report : Outside → List ℕ → List ℕ → Option (List ℕ) → List ℕ → List ℕ → Outside
 with_report o output text name bytes lines = with_said (with_save (with_file o output text) name bytes) lines
 
--- The run is reported: the listing of the loaded input was written to the requested output, which
--- is closed and kept. After that the last state was saved, if that is requested and the status is
--- Done, and then the closing lines were printed.
+-- The run is reported: the listing of the loaded input was written to the output file of the
+-- request, which is closed and kept. After that the last state was saved, if that is requested and
+-- the status is Done, and then the closing lines were printed.
 pub record IsReported (status : Status) (solving : Solving) (old new : Outside) (request : Asked) (loaded_input : LoadedInput) : Type 0 where
   pub text : List ℕ
   pub listing : IsListing status solving loaded_input text
@@ -143,30 +144,32 @@ pub record IsReported (status : Status) (solving : Solving) (old new : Outside) 
   pub closing : AreClosing status solving request loaded_input lines
   pub outside : new ≡ with_report old request.output text (save_file status request) save lines
 
--- The output could not be opened: no output is open, its bytes are empty, its name was requested or
--- not, and nothing was solved.
+-- The requested output could not be opened, and nothing was solved. The host's output is empty and
+-- not open, and the output's name may have been appended to the requested names (`asked`).
 pub record IsUnopened (solving : Solving) (old new : Outside) (request : Asked) : Type 0 where
   pub none : SolvesNothing solving
   pub outside : IsUnopenedFile old new request.output
 
--- Of the expected listing of the loaded input, `text`, a prefix was added to the output, which was
--- open in the state `opened`. The listing is that of a refusal, or that of a run which is cut off
--- after this prefix.
+-- A prefix of `text` was added to the output, which was open in the state `opened`. `text` is the
+-- listing that says why the loaded input is not accepted, or the listing of its run with the
+-- answers of `solving`, as far as these suffice. `IsWrittenPrefix` states at which lengths of the
+-- prefix a run can end.
 pub record IsUnwritten (solving : Solving) (opened new : Outside) (loaded_input : LoadedInput) : Type 0 where
   pub text : List ℕ
   pub prefix : AddsPrefix opened new text
   pub expected : IsWrittenPrefix solving loaded_input text (length prefix.added)
 
 -- The whole listing was written, but closing the output failed: no output is open (`writing` is
--- false), and this one is not kept.
+-- false), and this output is not appended to the closed ones (`kept`).
 pub record IsUnclosed (solving : Solving) (old new : Outside) (request : Asked) (loaded_input : LoadedInput) : Type 0 where
   pub status : Status
   pub text : List ℕ
   pub listing : IsListing status solving loaded_input text
   pub outside : new ≡ record (with_listing old request.output text) { writing = false }
 
--- The whole listing was written, and its output is closed and kept. The file for the save of the
--- last state could not be opened, or it has a prefix of the save, or closing it failed.
+-- The whole listing was written, and its output is closed and kept. The save of the last state is
+-- not kept: its file could not be opened; or a prefix of the save was written to it; or all of the
+-- save was written, and closing the file failed.
 pub record IsUnsaved (solving : Solving) (old new : Outside) (request : Asked) (loaded_input : LoadedInput) : Type 0 where
   pub status : Status
   pub text : List ℕ
@@ -178,7 +181,8 @@ pub record IsUnsaved (solving : Solving) (old new : Outside) (request : Asked) (
   pub outside : IsUnwrittenFile (with_file old request.output text) new name save
 
 -- The whole listing was written, its output is closed and kept, and the last state was saved, if
--- that is requested. Of the closing lines a prefix was printed.
+-- that is requested. Then a prefix of the closing lines was printed: none, some or all of their
+-- bytes.
 pub record IsUnsaid (solving : Solving) (old new : Outside) (request : Asked) (loaded_input : LoadedInput) : Type 0 where
   pub status : Status
   pub text : List ℕ
@@ -197,8 +201,9 @@ IsWriteFault solving old new request loaded_input =
     IsUnopened solving old new request
     ⊎ (IsUnwritten solving (with_opened old request.output) new loaded_input ⊎ (IsUnclosed solving old new request loaded_input ⊎ (IsUnsaved solving old new request loaded_input ⊎ IsUnsaid solving old new request loaded_input)))
 
--- what the run of a loaded input with this status did to the host: it is reported, or ended by a
--- write fault; for any other status there is no such run
+-- what the run of a loaded input with this status did to the host. Done, Compile or Execution: it
+-- wrote its listing, the save if one is requested and the status is Done, and its closing lines.
+-- WriteFault: a write fault ended it. There is no such run with any other status.
 abbrev pub RanSo : Status → Solving → Outside → Outside → Asked → LoadedInput → Type 0
 RanSo Done solving old new request loaded_input = IsReported Done solving old new request loaded_input
 RanSo Compile solving old new request loaded_input = IsReported Compile solving old new request loaded_input
@@ -232,10 +237,10 @@ IsRun status solving words old new = (request : Asked) × ((request_of words ≡
 
 -- ---- the counts of faults
 
--- how the counts of faults change in a run with this status: with ReadFault that of reading rises,
--- with WriteFault that of writing (a count at its greatest value may stay); with Done, Compile and
--- Execution they are unchanged if the host is precise (it counts a fault only in a call that
--- answers with one); with Usage nothing is claimed
+-- how the counts of faults change in a run with this status. ReadFault: the count of read faults
+-- rises; WriteFault: that of write faults (a count at its greatest value may stay). Done, Compile,
+-- Execution: no count changes if the host is precise (it counts a fault only in a call that answers
+-- with one). Usage: nothing is claimed
 abbrev pub CountsSo : Status → Counts → Counts → Type 0
 CountsSo Usage old new = Unit {0}
 CountsSo ReadFault old new = Rose old.read_faults new.read_faults
@@ -254,8 +259,8 @@ HasOrigin o (in_file file) = IsThere o file
 HasOrigin o (restarted saved file) = IsThere o saved × IsThere o file
 HasOrigin o (generated size) = Unit {0}
 
--- The host is reliable (no call answers with a fault, except one that opens an input which no file
--- has), and if it exposes its files, it has those that the arguments request.
+-- The host is reliable (no call answers with a fault, except one that opens an input by a name that
+-- no file has), and if it exposes its files, it has those that the arguments request.
 pub record IsReadyFor (old : Meaning) (words : List (List ℕ)) : Type 0 where
   pub reliable : old.counts.reliable ≡ true
   pub there : IfSome (request_of words) (λ request. HasOrigin old.outside request.source)
@@ -314,7 +319,8 @@ abbrev pub CanRunFrom : List (List ℕ) → Origin → RunInput → Type 0
 CanRunFrom solvers (generated size) taken = Unit {0}
 CanRunFrom solvers origin taken = CanRun solvers taken
 
--- The arguments request an input that can be run, with solvers of these names.
+-- The arguments `words` request an input: a source that the host's outside `old` has, or a
+-- generated model. With solvers of these names a run can execute this input, `source.taken`.
 pub record NamesProgram (solvers : List (List ℕ)) (old : Outside) (words : List (List ℕ)) : Type 0 where
   pub source : NamesSource old words
   pub can_run : CanRunFrom solvers source.request.source source.taken

@@ -15,15 +15,16 @@ const SEAM_LINES: u32 = 3;
 /// A source to run: a file alone, or a file that resumes from a saved state.
 #[derive(Clone, Copy)]
 pub(crate) struct Script<'a> {
-    /// The bytes of the whole source: the file alone, or the joint source, a saved source followed
-    /// by the file.
+    /// The bytes of the whole source: the file alone, or the joint source, which is a saved source,
+    /// a line with `;` and the file.
     pub source: &'a [u8],
-    /// The bytes of the file to run. Its lines are echoed in the listing, and those of a saved
-    /// source before it are not.
+    /// The bytes of the file to run. The listing echoes its lines, but not those of a saved source
+    /// before it.
     pub file: &'a [u8],
     /// The number of the file's first line in the whole source, from 1.
     pub line: u32,
-    /// Whether the file resumes from a saved state, so that the source is a joint source.
+    /// Whether the file resumes from a saved state. If so, the whole source is the joint source;
+    /// else it is the file alone.
     pub joint: bool,
 }
 

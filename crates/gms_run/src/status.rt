@@ -2,12 +2,11 @@
 ghost use Rattle.std.specs.Prelude.{◌≡◌};
 ghost use Rattle.gms_run.specs.ProgramsToRun.{status_code};
 
-/// How a run ends.
+/// How a run ends; `code` gives the exit status.
 ///
-/// `code` gives the number of a status. After Usage and ReadFault no output was opened. After Done,
-/// Compile and Execution the output has the whole listing. After WriteFault the output may have a
-/// prefix of the listing, or all of it; if it has all, the file for the save may have a prefix of
-/// the save.
+/// After Usage and ReadFault the listing's file was not opened. After Done, Compile and Execution
+/// it has the whole listing. After WriteFault it may have a prefix of the listing, or all; if all,
+/// the file of `--save` may have a prefix of the save, or all of it.
 #[derive(Clone, Copy, PartialEq, Eq)]
 pub enum Status {
     /// Every statement was executed, and the whole listing was written, and with `--save` the save.
@@ -25,8 +24,8 @@ pub enum Status {
 }
 
 impl Status {
-    /// The exit status with which `gams25` ends after such a run: 0 done, 1 usage, 2 compile, 3
-    /// execution, 4 read fault, 5 write fault.
+    /// The exit status of `gams25` after a run that ends in this way: 0 done, 1 usage, 2 compile,
+    /// 3 execution, 4 read fault, 5 write fault.
     pub fn code(self) -> u8
         ensures { result ≡ status_code self }
     {

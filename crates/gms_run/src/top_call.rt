@@ -35,15 +35,16 @@ use std::mem::{replace, swap};
 pub struct Ended {
     /// The status with which the run ended.
     pub status: Status,
-    /// The answers that the solvers gave in the run, in the order of the solves; none if nothing
-    /// was solved.
+    /// The answers that the solvers gave in the run, in the order of the solves; an empty list if
+    /// nothing was solved.
     pub answers: Vec<Answer<Frac>>,
 }
 
-/// Writes the listing of the loaded input to the output that a request names, and closes it. Then
-/// it saves the last state, if that is requested, and prints the closing lines: the remarks on the
-/// run, and the last line. Returns the status of the run; the error is a failed write, or out of
-/// memory.
+/// Writes the listing of the loaded input to the output that a request names, and closes the
+/// output. If the request names a file for a save, and the status is Done, the state at the end of
+/// the run is then saved. Last, the remarks on the run, such as requested sensitivity ranges, and
+/// the closing line are printed. Returns the status. The first fault of the host ends these steps
+/// with the error `Fault`, and out of memory with the error `Memory`.
 fn write_report<H: Host>(
     alloc: Global,
     host: &mut H,
@@ -373,60 +374,61 @@ fn run_words<H: Host>(
 
 /// Runs `gams25` on the arguments of its command line, without the program's name, over a host.
 ///
-/// The arguments are those of a `clap` command: an optional FILE, `--out` with the name of the
-/// output, the listing's file, `--generate` with a number from 1 to 30, `--save` and `--restart`
-/// with the name of a file each, and the flag `--ranges`. Exactly one of FILE and `--generate` is
-/// given, and `--restart` goes only with FILE. The source is read, or generated, before the output
-/// is opened. The listing is written to the output statement by statement. After the output is
-/// closed the closing lines are printed (docs/LISTING.md); with `--ranges` they begin with how far
-/// each right side and each cost of each optimum may move by itself while the optimum's basis
-/// remains optimal.
+/// The arguments are those of a `clap` command: an optional FILE; `--out` with the name of the
+/// output, the listing's file (`output_of` has the default); `--generate` with a number from 1 to
+/// 30; `--save` and `--restart` with the name of a file each; the flag `--ranges`. Exactly one of
+/// FILE and `--generate` is required, and `--restart` requires FILE. The source is read or
+/// generated before the output is opened. The listing is written statement by statement. After the
+/// output is closed, the closing lines are printed (docs/LISTING.md). With `--ranges` they begin
+/// with how far each right side and each cost of each optimum may move by itself while the
+/// optimum's basis remains optimal.
 ///
-/// With `--restart` the file of this option, a save, is read before FILE, and FILE resumes from the
-/// state that the save has: the source is the saved source followed by FILE; the lines of FILE are
-/// echoed, and its statements are executed. With `--save`, if every statement was executed, the
+/// With `--restart`, the file of this option, a save, is read before FILE, and FILE resumes from
+/// the saved state: the source is the saved source followed by FILE, but only the lines of FILE are
+/// echoed, and only its statements executed. With `--save`, if every statement was executed, the
 /// last state is written to the file of this option, after the output is closed and before the
-/// closing lines (docs/SAVES.md; GAMS User's Guide, "Save and Restart"). `restore` gives this state
-/// back, unless the save is too long.
+/// closing lines (docs/SAVES.md; GAMS User's Guide, "Save and Restart").
 ///
-/// The clause `headline` is the promise for a FILE alone: the listing is that of its source, what
-/// each answer says of plans is true, and nothing else changes outside. The clause `answers` states
-/// the truth of answers for every run. A plan gives each element of a variable a number. A plan is
-/// feasible if it satisfies the equations of the model and the bounds of the listed elements, with
-/// the data at the moment of the solve. Optimal: the listed levels are feasible, and no feasible
-/// plan is better. Infeasible: no plan is feasible. Unbounded: for each number some feasible plan
-/// has a better objective. The listed elements are those that occur in a row, and the objective: an
-/// answer says nothing of the levels and bounds of other elements.
+/// The clause `headline` is the promise for a FILE alone, if the status is Done, Execution or
+/// Compile: the output has the listing of its source, what each answer says of plans is true, the
+/// closing line is printed, and nothing else changes outside. The clause `answers` states the truth
+/// of answers for every run. A plan gives each element of a variable a number. Listed elements are
+/// those that occur in a row, and the objective. A plan is feasible if it satisfies the equations
+/// of the model and the bounds of listed elements, with the data at the solve. Optimal: the listed
+/// levels are feasible, and no feasible plan is better. Infeasible: no plan is feasible. Unbounded:
+/// the levels are feasible, and for each number some feasible plan has a better objective.
+/// Interrupted in phase 2: the levels are feasible. Other answers say nothing.
 ///
-/// The clause `run` states what every run did, by its status. Done and Execution: the source is
-/// accepted, its run takes all answers, each of which answers its linear program, and the listing
-/// is the text of that run. Compile: the source is refused, or the save cannot be restored, and the
-/// listing says why. Usage: the arguments request no source. ReadFault: a file was not read.
-/// WriteFault: how far the run came; if something was solved, all answers are used by the
-/// statements whose text was written, except for at most its last 4,096 bytes, and by at most one
-/// statement more. The solvers keep their names and rules, and the pivots of each answer are
-/// appended to the paths of the solver that gave it; with Usage, Compile and ReadFault nothing is
-/// solved. There are fewer than 2^32 solvers.
+/// The clause `run` states by the status what a run did. Done and Execution: the source is
+/// accepted; the solves of its run take all answers that the solvers gave, each an answer to the
+/// linear program of its solve; and the listing is the text of that run. Compile: the source is
+/// refused, or the save cannot be restored, and the listing says why. Usage: the arguments request
+/// no source. ReadFault: a file was not read. WriteFault: a listing that was written whole is as
+/// with Done, Execution or Compile; if it was cut off after something was solved, then for some n
+/// the first n + 1 statements take all answers, and of the text of the first n statements the
+/// listing lacks at most the last 4,096 bytes. The solvers keep their names and rules, and the
+/// pivots of each answer are appended to the list of pivots of the solver that gave it; with Usage,
+/// Compile and ReadFault nothing is solved. There must be fewer than 2^32 solvers.
 ///
-/// The clauses `usage`, `compile` and `execution` state exactly when a run ends with Usage, Compile
-/// and Execution, the last two over a host that exposes its files, if no fault is met. A run ends
-/// with Execution exactly if the run that the source means is stopped by an execution error, with
-/// the answers that the solvers give in this run. Later statements read these answers, so the
-/// answers may decide whether an error occurs.
+/// The clauses `usage`, `compile` and `execution` state exactly when a run ends with their status;
+/// `compile` and `execution` do so only if no fault of the host is met, and for a FILE only over a
+/// host that exposes its files. A run ends with Execution exactly if the run that the source means
+/// is stopped by an execution error, with the answers that the solvers give in this run. These
+/// answers may decide whether an error occurs, since later statements read them.
 ///
-/// The clauses `counts`, `steady` and `no_fault` speak of the faults of the host that the host
-/// counts: failed reads and failed writes. A host is ready (`IsReadyFor`) if none of its calls has
-/// a fault, except one that opens an input which no file has, and if it has the files that the
-/// arguments request or hides its files. The clause `complete`: if the arguments name a program
-/// without errors, or a generated model, and no fault is met, the run ends with Done or Execution.
+/// The host counts its failed reads and failed writes. A run that ends with ReadFault or WriteFault
+/// has such a fault counted (`counts`). A host is ready if only calls that open an input file which
+/// does not exist have a fault, and it has the files that the arguments request, or hides its
+/// files. A ready host counts no fault (`steady`), and no run over it ends with ReadFault or
+/// WriteFault (`no_fault`). If the arguments request a program without errors or a generated model,
+/// and no fault is met, the run ends with Done or Execution (`complete`).
 ///
 /// What the clauses leave open: the error `AllocError` means out of memory, here or in the host.
 /// Then only `steady` holds, and the output may have a prefix of a listing. If the host hides its
 /// files, a FILE has some content, and `compile`, `execution` and `complete` say nothing of a run
-/// of FILE; of a run of a generated model they state the same as over any other host. `RealHost`,
-/// the host over real files, hides them: that it reads and writes the files that the arguments name
-/// is trusted. For a solver whose rule is Legal the clauses promise legal pivots, and not which
-/// legal pivots.
+/// of FILE. `RealHost`, the host over real files, hides them: that it reads and writes the files
+/// that the arguments name is trusted. For a solver whose rule is Legal the clauses promise legal
+/// pivots, and not which legal pivots.
 pub fn run<H: Host>(
     alloc: Global,
     words: &[String],

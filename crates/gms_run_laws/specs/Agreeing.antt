@@ -49,10 +49,10 @@ pub record SolveAlike {F : Type 0} (world other : World F) (statements : List (S
   pub solvers : other.solvers ≡ world.solvers
   pub models : DefineAlike world.program.statements.items other.program.statements.items (flat_map models_solved statements)
 
--- A run `other`, which began in `state`, ends like the run `course`. Its last state is `state`
--- overlaid with that of `course`; its solves have used as many answers; and the answers that remain
--- for further solves are those of `course`, followed by `following`. The used and remaining answers
--- of `course` are `count` in all.
+-- A run `other`, which began in `state`, ends like the run `course`: its last state is `state`
+-- overlaid with that of `course`; both have used as many answers for solves; the answers that
+-- remain for `other` are those that remain for `course`, followed by `following`. `course` has
+-- `count` answers, used and remaining.
 pub record EndsAlike (state : State) (following : List (Answer Number)) (count : ℕ) (course other : Course) : Type 0 where
   pub ends : other.state ≡ overlaid state course.state
   pub left : other.left ≡ course.left ++ following

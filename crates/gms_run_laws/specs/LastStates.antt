@@ -13,9 +13,9 @@ use Rattle.gms_check.specs.Loaded.{loaded}
 use Rattle.gms_check.specs.Past.{is_among}
 use Rattle.gms_save_text.specs.Validity.{declared_symbols, fits_position, are_statuses, are_in_range}
 
--- The tuples with data of a symbol are in order, have one label for each of its positions, and are
--- those whose entry differs from that of an element without data; a model has the statuses of some
--- end of a solve, or those before any.
+-- The tuples with data of a symbol are distinct and ascend (`IsOrdered`), have one label for each
+-- of its positions, and are those whose entry differs from that of an element without data; a model
+-- has the statuses of some end of a solve, or those before any.
 pub record IsTidy (symbol : Symbol) : Type 0 where
   pub ordered : IsOrdered (given_in symbol.content)
   pub long : All (λ t. length t ≡ length symbol.domain) (given_in symbol.content)
@@ -46,10 +46,10 @@ AreFixed assigned state (Some set ∷ domain) = IsFixedSet assigned state set ×
 abbrev pub names_assigned : {F : Type 0} → State → Program F → List ℕ
 names_assigned state program = map (base_of state) (flat_map assigned_names program.statements.items)
 
--- `state` may follow `first` in a run that assigns only names for which `is_assigned` is true: it
--- declares the same symbols, data aside; each of its symbols satisfies `IsTidy`, an invariant of
--- the data; the members of a set that is not assigned are the same; and the settings are in the
--- ranges of their options.
+-- What holds of `state` if it follows `first` in a run that assigns only names for which
+-- `is_assigned` is true: it declares the symbols of `first`, data aside; each satisfies `IsTidy`,
+-- an invariant of the data; the members of a set that is not assigned are those in `first`; and the
+-- settings are in the ranges of their options.
 pub record IsLater (first : State) (is_assigned : ℕ → Bool) (state : State) : Type 0 where
   pub declares : declared_symbols state ≡ declared_symbols first
   pub given : (name : ℕ) → IsTidy (symbol_at state name)

@@ -52,7 +52,7 @@ abbrev mutual
   index_names (tree.set set rest) = set ∷ index_names rest
   index_names (tree.lagged set op at amount rest) = set ∷ (names_in_tree amount ++ index_names rest)
 
-  -- the sets of a control, and the names in its condition
+  -- the sets that a fold or a loop controls, and the names in its condition
   pub control_names : {F : Type 0} → tree.Control F → List ℕ
   control_names (tree.over sets) = sets
   control_names (tree.over_where sets condition) = sets ++ names_in_tree condition
@@ -68,10 +68,9 @@ abbrev pub definition_names : {F : Type 0} → Definition F → List ℕ
 definition_names d = d.equation ∷ (index_names d.indices ++ (condition_names d.condition ++ (names_in_tree d.left ++ names_in_tree d.right)))
 
 module _ {F : Type 0} (world : World F) where
-  -- The names on which the state after an act depends, where each statement of a loop's body is
-  -- replaced by its own names: those in an assignment; the model and the objective of a solve, and
-  -- those in the definitions of the model; those in the control and the body of a loop; none for
-  -- other acts.
+  -- The names on which the state after an act depends. Each statement of a loop's body is replaced
+  -- by the list of its names. The names are those in an assignment; a solve's model and objective,
+  -- and those in the model's definitions; those in a loop's control and body; none for other acts.
   abbrev pub names_step : Act-F F (List ℕ) (List ℕ) → List ℕ
   names_step (Act-F.Assign target condition right_at (Value right)) =
       target.name ∷ (index_names (target_of target).indices ++ (condition_names (option_map tree_of condition) ++ names_in_tree (tree_of right)))
@@ -80,7 +79,9 @@ module _ {F : Type 0} (world : World F) where
   names_step (Act-F.Loop control body) = control_names (control_tree control) ++ flat_map (λ names. names) body.items
   names_step act = []
 
-  -- the names on which the state after a statement depends
+  -- the names on which the state after a statement depends, also in the body of a loop: those in an
+  -- assignment or in the control of a loop; the model and the objective of a solve, and the names
+  -- in the definitions of the model
   abbrev pub statement_names : Stmt F → List ℕ
   statement_names = fold-Stmt F (List ℕ) (List ℕ) names_step (λ statement. statement.act)
 

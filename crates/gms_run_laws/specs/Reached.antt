@@ -20,9 +20,9 @@ pub record IsStatementOf {F : Type 0} (program : Program F) (statement : Stmt F)
   pub depth : ℕ
   pub inside : IsNestedIn depth statement outer
 
--- A state results from the state `first` if statements of the program are executed, in any
+-- A state that results from the state `first` by executing statements of the program, in any
 -- sequence, under any labels of controlled sets, and with any answers for solves. A course is how
--- far a run has come, with its state and the answers that remain.
+-- far a run has come, with its state and remaining answers.
 pub data IsReached {F : Type 0} (number_of : F → Number) (limit : ℕ) (world : World F) (first : State) : State → Type 0 where
   -- the state `first` itself
   at_first : IsReached number_of limit world first first

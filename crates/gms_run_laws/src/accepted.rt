@@ -49,12 +49,12 @@ use gq_field::ExactField;
 /// controlled at the reference has a label.
 ///
 /// Each set among the indices of the reference has a label (`occur`), and there are at most 10
-/// indices (`few`). Take a state in which no amount of a lag has a fault: there the indices have a
-/// tuple, unless a lag goes beyond an end of its set or begins at a label that is no member of that
-/// set (`tuple`). In no other case does a reference read 0 because a label is missing. A fold, a
-/// loop or a left side gives each of its sets a label, that of the element, in addition to the sets
-/// that have one (`element`); if the stored members of these sets have one label each and are
-/// strictly sorted by its number, each label of the element is a member of its set (`members`).
+/// indices (`few`). In a state in which no amount of a lag has a fault the indices have a tuple,
+/// unless a lag goes beyond an end of its set or begins at a label that is no member of that set
+/// (`tuple`). At an element, a fold, a loop or a left side gives each of its sets the element's
+/// label; each set that had a label before still has one (`element`). If the stored members of
+/// these sets have one label each and are strictly sorted by its number, each label of the element
+/// is a member of its set (`members`).
 ///
 /// GAMS User's Guide, "Data Manipulations with Parameters", controlled indices; "Sets as Sequences:
 /// Ordered Sets".
@@ -79,11 +79,11 @@ pub fn label_laws<F: ExactField>()
 {}
 
 /// The last state of a program's run is one that its statements reach (`last`). Take any state that
-/// the statements reach, also inside a loop, from one in which a run may begin: from the start or
+/// the statements reach, also inside a loop, from one in which a run may begin: at the start or
 /// from a save. Take a name that the declarations before some statement of the program make a
-/// one-dimensional set or an alias of one: in that state its stored members have one label each and
-/// are strictly sorted by its number (`simple`). If the program is accepted, no assignment of it,
-/// executed in that state, assigns to an element twice (`once`; GAMS User's Guide, "Data
+/// one-dimensional set or an alias of one. In that state the set's stored members have one label
+/// each and are strictly sorted by its number (`simple`). If the program is accepted, one execution
+/// of an assignment there assigns to no element twice (`once`; GAMS User's Guide, "Data
 /// Manipulations with Parameters", indexed assignments).
 pub fn run_laws<F: ExactField>()
     ensures last { (world : World F) (state : State) (answers : List (Answer Number)) →
@@ -100,20 +100,20 @@ pub fn run_laws<F: ExactField>()
         IsOnce given }
 {}
 
-/// What each state of a program's run, also inside a loop, has in common with the state in which
-/// the program's own run begins. Each such state declares the same names in the same way. The
-/// stored tuples with data of each name are strictly sorted by the numbers of their labels, have as
-/// many labels as the name has positions, and are those whose entry differs from that of an element
-/// without data. A model has the statuses of before a solve or of after one. The members of a set
-/// that the program does not assign are unchanged. The settings are in the ranges of their options.
-/// A run may begin in any state with all these properties; then each of its states has them
-/// (`kept`). The first state of the program's own run has them (`own`), and so has one that is
-/// resumed from a save. So the last state, which is saved, has them.
+/// What each state of a program's run, also inside a loop, has in common with the program's first
+/// state, which has the declared names with the declared data alone. Each state declares the same
+/// names in the same way. The stored tuples with data of each name are strictly sorted by the
+/// numbers of their labels, have as many labels as the name has positions, and are those whose
+/// entry differs from that of an element without data. A model has the statuses of before or after
+/// a solve. The members of a set that the program does not assign are unchanged. The settings are
+/// in the ranges of their options. A run may begin in any state with these properties; then each
+/// state of the run has them (`kept`). The program's first state has them (`own`).
 ///
-/// In an accepted program each tuple has at most 10 labels (`few`). In the state in which its own
-/// run begins each label is a member of the set of its position (`begins`), which is declared and
-/// which no statement of the program assigns (`fixed`); no model has been solved (`unsolved`), and
-/// the settings are the first ones (`settings`).
+/// In a run of an accepted program each stored tuple has at most 10 labels (`few`). In the first
+/// state of an accepted program each label of a stored tuple is a member of the set of its
+/// position, if any (`begins`). Such a set is declared, and no statement assigns it (`fixed`). In
+/// the first state of any program no model has been solved (`unsolved`), and the settings have
+/// their default values (`settings`).
 ///
 /// GAMS User's Guide, "Save and Restart", "Set Definition", "Variables", "The Option Statement".
 pub fn last_laws<F: ExactField>()
@@ -135,10 +135,10 @@ pub fn last_laws<F: ExactField>()
 {}
 
 /// In each state of an accepted program's run, from its start or from a save, both sides of each
-/// definition of a model are linear in the variables: of a product at most one factor, and no
-/// divisor, has variables, and the only folds over an expression with variables are sums. So the
-/// points that satisfy the model in that state are exactly the feasible points of the linear
-/// program that a solve means there (`point_laws` of gms_rows).
+/// definition of a model are linear in the variables: at most one factor of a product, and no
+/// divisor, has variables, and all folds over expressions with variables are sums. So the points
+/// that satisfy the model in that state are exactly the feasible points of the linear program that
+/// a solve means there (`point_laws` of gms_rows).
 ///
 /// GAMS User's Guide, "Equations", "Model and Solve Statements".
 pub fn linear_laws<F: ExactField>()
@@ -147,11 +147,10 @@ pub fn linear_laws<F: ExactField>()
         All (IsLinearDefinition state) (definitions_of_model world.program.statements.items model) }
 {}
 
-/// The columns and the rows of the linear program of a solve of an accepted program are elements of
-/// the state in which it is solved: of declared variables and equations, each with as many labels
-/// as its name has positions, and no two of them are the same. So `solve_laws` of gms_exec holds of
-/// each solve, in each state of the program's run, from its start or from a save, also inside a
-/// loop.
+/// Each column and each row of the linear program of a solve of an accepted program is an element
+/// of a variable or an equation that the state of the solve declares, with as many labels as its
+/// name has positions. No two of them are the same. This holds of each solve, in each state of the
+/// program's run, from its start or from a save, also inside a loop.
 ///
 /// GAMS User's Guide, "Model and Solve Statements", "Equations".
 pub fn element_laws<F: ExactField>()

@@ -9,14 +9,13 @@ ghost use Rattle.gms_run_laws.specs.Extensions.{ExtendsProgram};
 
 use gq_field::ExactField;
 
-/// The statements of an accepted program depend only on names that the first state of its run
-/// declares, also in the definitions of the models that they solve (`names`), and the set of an
-/// alias of that state is declared (`closed`). If an accepted program begins with the statements of
-/// another, its first state has each name that the other's first state declares, with the same
-/// declaration and data, and the same settings (`begins`), and the models that the other solves
-/// have the same definitions in both programs (`solves`).
-///
-/// A restarted run rests on these laws (GAMS User's Guide, "Save and Restart").
+/// The statements of an accepted program depend, also in the definitions of the models that they
+/// solve, only on names that the first state of its run declares (`names`). That state declares the
+/// set of each of its aliases (`closed`). Let an accepted program extend a shorter one by
+/// statements that declare none of its variables again. The longer one's first state has the names
+/// that the shorter one's declares, with the same declarations, data and settings (`begins`). If
+/// both are accepted, models that the shorter one solves have equal definitions in both (`solves`;
+/// GAMS User's Guide, "Save and Restart").
 pub fn extension_laws<F: ExactField>()
     ensures names { (world : World F) →
         IsAccepted F.value world.program → NameDeclared world (loaded F.value world.program) world.program.statements.items }

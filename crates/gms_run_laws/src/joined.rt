@@ -9,12 +9,12 @@ ghost use Rattle.gms_run_laws.specs.JointRun.{run_after};
 
 use gq_field::ExactField;
 
-/// A run of the statements `first` followed by `others`, where the run of `first` alone does not
-/// halt. The whole run consists of the run of `first` and of a run of `others` that begins in the
-/// last state of the former with the answers that remain for further solves. The events of `others`
-/// follow those of `first`, and the indices of their answers are greater by the number of answers
-/// that `first` used. So a run that resumes from a saved state shows what it would have shown after
-/// the statements that made that state (GAMS User's Guide, "Save and Restart").
+/// Let a run of the statements `first` not halt: no fault stops it, and it has an answer for each
+/// solve. Then the run of `first` followed by `others` consists of the run of `first` and a run of
+/// `others`. The run of `others` begins in the last state of the run of `first`, with the answers
+/// that remain. Its events follow those of the run of `first`. In its events the index of the
+/// answer of each solve is greater by the number of answers that the run of `first` used (GAMS
+/// User's Guide, "Save and Restart").
 pub fn joint_laws<F: ExactField>()
     ensures joined { (world : World F) (state : State) (answers : List (Answer Number)) (first others : List (Stmt F)) →
         (run_from F.value F.limit world state answers first).halted ≡ None →

@@ -15,10 +15,10 @@ ghost use Rattle.lp_core.specs.declared.answer.Answer.{Answer};
 
 use gq_field::ExactField;
 
-/// The meaning of an expression depends only on the names in it. In two states in which each of
-/// these names has the same symbol, and each alias among them also the same symbol of its set, the
-/// expression has the same value under every binding, or the same fault (`value`); and the same
-/// linear form in the variables, if it has one (`form`).
+/// The meaning of an expression depends only on the names in it. Let each of these names, and the
+/// set of each alias among them, have the same symbol in two states. Then under each binding the
+/// expression has in both states the same value or fault (`value`), and the same linear form in
+/// the variables or the same fault (`form`).
 ///
 /// GAMS User's Guide, "Data Manipulations with Parameters", "Equations".
 pub fn value_laws<F: ExactField>()
@@ -28,16 +28,18 @@ pub fn value_laws<F: ExactField>()
         AgreeOn test one other → Each test (names_in_tree e) → affine F.value F.limit other at binding e ≡ affine F.value F.limit one at binding e }
 {}
 
-/// Two runs of the same statements, one from the state `first` and one from `state`. The statements
-/// depend only on names that `first` declares, `state` has the settings of `first` and each name
-/// that `first` declares, with the same declaration and data, and the set of each alias of `first`
-/// is declared; the solvers, and the definitions of the models that are solved, are the same in
-/// both worlds. If neither run halts, the run that began in `state` ends in `state` overlaid with
-/// the last state of the run that began in `first`: names that this last state declares are as in
-/// it, other names as in `state`, and the settings are those of this last state. The solves of both
-/// runs used as many answers. The run that began in `state` was given `following` after the answers
-/// of the other run, and what remains of its answers is what remains in the other run, followed by
-/// `following`.
+/// Two runs of the same statements: one in `world` from the state `first`, and one in the world
+/// `other` from `state`. A world is a program and the names of the solvers. The run from `first`
+/// has the list `answers` for its solves, and the run from `state` the list `answers ++ following`.
+///
+/// Let `first` declare each name on which the statements depend, also in the definitions that the
+/// models they solve have in `world`, and the set of each alias that it declares. Let `state` have
+/// the settings of `first`, and each name that `first` declares, with the same declaration and
+/// data. Let the solvers, and the definitions of the solved models, be the same in both worlds. If
+/// neither run halts, the run from `state` ends in `state` overlaid with the last state of the run
+/// from `first`: names that this last state declares, and the settings, are as in it, other names
+/// as in `state`. Both runs use equally many answers. The answers that remain for the run from
+/// `state` are those that remain for the run from `first`, then `following`.
 ///
 /// GAMS User's Guide, "Save and Restart", "GAMS Programs".
 pub fn frame_laws<F: ExactField>()

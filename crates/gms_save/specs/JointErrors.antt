@@ -50,7 +50,7 @@ module _ {F : Type 0} where
   saved_statements from joint = filter (is_saved from) joint.statements.items
 
   -- the state after the declarations of the saved source, which is the part of `joint` before the
-  -- line `from`
+  -- line `from`; their data are not in the state
   abbrev pub saved_names : ℕ → Program F → State
   saved_names from joint = declared_by_all (blank_state (length joint.names)) (saved_statements from joint)
 
@@ -111,7 +111,8 @@ module _ {F : Type 0} where
   restart_error from joint statement = if is_saved from statement then None else first_error (restart_errors from joint statement)
 
   -- the errors of a joint program, whose new file begins at the line `from`, with solvers of these
-  -- names: for each statement the error of a check or the error Restart, whichever is first, if any
+  -- names: at most one for each statement, the error of a check or the error Restart, whichever is
+  -- first by place and then by number
   abbrev pub joint_errors : (F → Number) → Program F → ℕ → List (List ℕ) → List CompileError
   joint_errors value joint from solvers =
       flat_map option_to_list (each_sooner (restart_error from joint) (statement_errors value joint solvers) joint.statements.items)

@@ -61,10 +61,10 @@ place_of_solver solvers solver =
 
 -- ---- saves
 
--- The program has no error with solvers of the names that it chooses. `state` is a saved state of
--- the program, with a solver of this name (`IsSavedOf`): it declares the same names in the same
--- way, its data and settings are valid, and a set that the program does not assign has the members
--- of its declaration.
+-- The program has no error with solvers of the names that it chooses. `state`, with a solver named
+-- `solver`, is a saved state of the program (`IsSavedOf`): both declare the same names alike, the
+-- data and settings of `state` are valid, and a set that the program does not assign has its
+-- declared members.
 pub record IsSavedBy (program : Program Frac) (state : State) (solver : List ℕ) : Type 0 where
   pub no_error : compile_errors frac_value program (solvers_chosen program) ≡ []
   pub is_saved : IsSavedOf frac_limit (length program.labels) (declared_state program) (loaded frac_value program) (is_among (dynamic_sets program)) state solver
@@ -96,10 +96,9 @@ pub record IsRestored (solvers : List (List ℕ)) (bytes : List ℕ) (saved : Sa
   pub is_save : IsSaveOf bytes saved.source.items saved.program saved.store solver
   pub placed : place_of_solver solvers solver ≡ Some saved.store.settings.solver
 
--- The result of restoring these bytes, with solvers of these names, is right: what was saved, or a
--- fault whose cause holds. SaveTooLong: there are more than `most_save_bytes` bytes. SaveShape: the
--- bytes are no save. SaveSolver: none of the solvers is that of the save. Out of memory makes no
--- claim.
+-- The result of restoring these bytes, with solvers of these names, is right. SaveTooLong: they are
+-- more than `most_save_bytes`; else they are not. Ok: they are the save of `saved`. SaveShape: they
+-- are no save. SaveSolver: none of the solvers is that of the save. Out of memory makes no claim.
 abbrev pub Restores : List (List ℕ) → List ℕ → Result Saved SaveFaultOrMemory → Type 0
 Restores solvers bytes (Ok saved) = (length bytes ≤ most_save_bytes) × IsRestored solvers bytes saved
 Restores solvers bytes (Err Memory) = Unit {0}
@@ -119,8 +118,9 @@ pub record IsBack (solvers : List (List ℕ)) (saved : Saved) (source : List ℕ
   pub state_is : saved.store ≡ with_solver state saved.store.settings.solver
   pub placed : place_of_solver solvers solver ≡ Some saved.store.settings.solver
 
--- the result of restoring `bytes`, the save of this state, is right: the state, unless the save is
--- too long or none of the solvers has the name; never SaveShape; out of memory makes no claim
+-- the result of restoring `bytes`, the save of this source, program and state with a solver of the
+-- name `solver`, is right: what was saved (`IsBack`); SaveTooLong if the save is too long;
+-- SaveSolver if none of `solvers` has this name; never SaveShape; out of memory makes no claim
 abbrev pub AnswersSave : List (List ℕ) → List ℕ → List ℕ → Program Frac → State → List ℕ → Result Saved SaveFaultOrMemory → Type 0
 AnswersSave solvers bytes source program state solver (Ok saved) = IsBack solvers saved source program state solver
 AnswersSave solvers bytes source program state solver (Err Memory) = Unit {0}
@@ -128,8 +128,9 @@ AnswersSave solvers bytes source program state solver (Err (Fault SaveTooLong)) 
 AnswersSave solvers bytes source program state solver (Err (Fault SaveShape)) = ⊥
 AnswersSave solvers bytes source program state solver (Err (Fault SaveSolver)) = place_of_solver solvers solver ≡ None
 
--- whichever state of whichever program these bytes are the save of, the result of restoring them is
--- right for it (`AnswersSave`): this state, a fault whose cause holds, or out of memory
+-- for each state of a program that these bytes are the save of, the result of restoring the bytes
+-- with solvers of these names is right (`AnswersSave`): this state, a fault whose cause holds, or
+-- out of memory
 abbrev pub GivesBack : List (List ℕ) → List ℕ → Result Saved SaveFaultOrMemory → Type 0
 GivesBack solvers bytes result =
     (source : List ℕ) (program : Program Frac) (state : State) (solver : List ℕ) → IsSaveOf bytes source program state solver → AnswersSave solvers bytes source program state solver result

@@ -12,14 +12,14 @@ use gq_frac::Frac;
 use std::alloc::{AllocError, Global};
 use std::mem;
 
-/// The errors of `joint`, the program of a saved source followed by a new file, which begins at the
-/// line `from`. The errors are in the order of the statements; `solvers` has the names of the
-/// solvers. Each statement has at most one error: of those that a check finds and of the errors
-/// `Restart` the first, by place and then by number.
+/// The errors of `joint`'s statements, in their order. `joint` is the program of a saved source
+/// followed by a new file, which begins at the line `from`; `solvers` has the names of the solvers.
+/// Each statement has at most one error: the first, by place and number, of its compile error and
+/// its errors `Restart`.
 ///
-/// `Restart` is at a saved variable that the new file declares as a variable again, or at a saved
-/// set that the new file assigns and the saved source does not; an alias counts as its set (GAMS
-/// User's Guide, "Save and Restart").
+/// A statement of the new file has `Restart` where it declares a variable of the saved source as a
+/// variable again, or assigns a set that the saved source declares but does not assign; an alias
+/// counts as its set (GAMS User's Guide, "Save and Restart").
 pub fn joint_errors(
     alloc: Global,
     joint: &Program<Frac>,
@@ -38,9 +38,9 @@ pub fn joint_errors(
 /// Makes the saved state in `store` the one from which a restarted run resumes. `joint` is the
 /// program of the saved source followed by the new file, which begins at the line `from`. The state
 /// gets the names that only this joint program declares, with their data (GAMS User's Guide, "Save
-/// and Restart"). Names that the saved state declares, and its settings, stay. With some list of
-/// solvers the joint program must have no error of `joint_errors`. The saved state is moved, and
-/// not copied. If memory runs out, the state is unchanged.
+/// and Restart"). Names of the saved state keep their data; its settings stay. With some list of
+/// solvers `joint_errors` must find no error in `joint`. If memory runs out, the state is
+/// unchanged.
 pub fn resume(
     alloc: Global,
     store: &mut Store<Frac>,

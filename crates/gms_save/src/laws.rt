@@ -12,10 +12,10 @@ ghost use Rattle.gms_check.specs.Loaded.{loaded};
 ghost use Rattle.gms_save.specs.JointErrors.{joint_errors, resumed};
 ghost use Rattle.gms_save.specs.Saves.{IsSavedBy, solvers_chosen};
 
-/// Two programs with equal views (names, labels and trees of statements) have the same errors,
-/// begin in the same state, with their declarations and data (`loaded`), and have the same saved
-/// states, however they are stored in memory. A source has one view of a program, so a property of
-/// one program of a source is one of each (GAMS User's Guide, "GAMS Programs", "Save and Restart").
+/// Two programs with equal views (names, labels and trees of statements), however stored, have
+/// equal errors, choices of solvers, declarations, assigned sets, first states (`loaded`), saved
+/// states and states from which they resume (GAMS User's Guide, "GAMS Programs", "Save and
+/// Restart").
 pub fn view_laws()
     ensures errors { (one other : Program Frac) (solvers : List (List ℕ)) → program_view frac_value one ≡ program_view frac_value other →
         compile_errors frac_value one solvers ≡ compile_errors frac_value other solvers }

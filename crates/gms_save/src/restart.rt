@@ -15,16 +15,17 @@ use gms_store::{Store, SymbolKind};
 use gq_frac::Frac;
 use std::alloc::{AllocError, Global};
 
-/// What is known of the saved source, to check that the new file declares no saved variable as a
-/// variable again, and assigns no saved set that the saved source does not assign.
+/// What is known of the saved source, to check two rules for the new file, which resumes from it.
+/// The new file declares no variable of the saved source as a variable again. Of the saved source's
+/// sets it assigns only those that the saved source assigns too.
 pub(crate) struct RestartCheck {
-    /// The line of the joint source at which the new file begins.
+    /// The first line of the new file in the joint source.
     pub from: u32,
-    /// The state after the declarations of the saved source alone.
+    /// The declarations, without data, of the saved source alone.
     pub saved: Store<Frac>,
-    /// The state after the declarations of the joint program: the saved source, then the new file.
+    /// The declarations, without data, of the joint program: the saved source, then the new file.
     pub declared: Store<Frac>,
-    /// The sets that the saved source assigns, as marks by the numbers of names; an alias counts as
+    /// Marks of the sets that the saved source assigns, by the numbers of names. An alias counts as
     /// its set.
     pub assigned: Marks,
 }
@@ -80,8 +81,9 @@ fn assigned_before(
 }
 
 impl RestartCheck {
-    /// The check of the statements of the new file. `joint` is the program of the saved source
-    /// followed by the new file, which begins at the line `from`.
+    /// The check for errors `Restart`, misuses of saved names in the new file. `joint` is the
+    /// program of the saved source, then of this file, which begins at the line `from`. The error
+    /// is out of memory.
     pub fn new(alloc: Global, joint: &Program<Frac>, from: u32) -> Result<RestartCheck, AllocError>
         ensures { IfOk result (IsCheckOf from joint.now) }
     {
@@ -96,12 +98,12 @@ impl RestartCheck {
         })
     }
 
-    /// Puts the errors `Restart` of statements into `each`, which has for each statement its error
-    /// so far, or `None` if it has none. Such an error is at a saved variable that a statement of
-    /// the new file declares as a variable again, or at a saved set that it assigns and the saved
-    /// source does not; statements of the saved source have none. The first `Restart` of a
-    /// statement replaces the error if it comes first, by place and then by number, or if there is
-    /// no error so far. Other errors stay.
+    /// Merges the errors `Restart` of `statements` into `each`, which must have for each statement
+    /// its error so far, or `None`. A statement of the new file has such an error where it declares
+    /// a saved variable as a variable again, or assigns a set that the saved source declares but
+    /// does not assign (an alias counts as its set). Statements of that source have none.
+    /// Afterwards `each` has for each statement the first of its error so far and its errors
+    /// `Restart`, by place and then by the error's number.
     pub fn add_errors(&self, statements: &[Stmt<Frac>], each: &mut [Option<CompileError>])
         requires { length each.old ≡ length statements.now }
         ensures { each.new ≡ each_sooner (error_by self.now) each.old statements.now }

@@ -29,12 +29,12 @@ use std::alloc::{AllocError, Global};
 /// The greatest number of bytes of a save that `restore` accepts.
 pub const MOST_BYTES: usize = 67_108_864;
 
-/// The save of the state `store` of a program, with the program's source `source`. The name
-/// `solver` is in the save in place of the index of the solver in the settings (GAMS User's Guide,
-/// "Save and Restart"). A save is a text that a person can read, and has one form for each state.
+/// The save of the state `store` of the program `program`, whose source is `source`. It has the
+/// name `solver`, `none` if there is no solver, in place of the solver's index in the settings
+/// (GAMS User's Guide, "Save and Restart").
 ///
-/// `AllocError` means that memory ran out. A save of over 67,108,864 bytes is made, but `restore`
-/// does not accept it.
+/// The error is out of memory. A save of over 67,108,864 bytes is made, but `restore` does not
+/// accept it.
 pub fn save(
     alloc: Global,
     source: &[u8],
@@ -47,23 +47,24 @@ pub fn save(
     text_of(alloc, source, &program.names, store, solver.as_bytes())
 }
 
-/// The contents of a save: the source, its program, and the state after it, with the index of the
-/// save's solver in the list `solvers` of names (GAMS User's Guide, "Save and Restart").
+/// The contents of the save `bytes`: its source, the program of this source, and a state, whose
+/// settings have the index of the save's solver in the list `solvers` of names (GAMS User's Guide,
+/// "Save and Restart").
 ///
-/// `SaveTooLong` comes only if there are over 67,108,864 bytes, and then only `Memory` may come in
-/// its place. The other faults come only up to that length. `SaveShape` comes only if the bytes are
-/// no save: a save has the one text of a state that the program of its source can have, and that
-/// program has no error, except perhaps in its choice of a solver. `SaveSolver` comes only if the
-/// save has no solver and the list is not empty, or if the list lacks the solver of the save;
-/// letter case is ignored in names. The index is that of the first solver with the name; 0 if the
-/// save has no solver and the list is empty. `Memory` means that memory ran out. If no fault comes,
-/// the bytes are the save of what is restored (`answer`).
+/// The fault is `SaveTooLong` if there are over 67,108,864 bytes; `SaveShape` if the bytes are no
+/// save; `SaveSolver` if the list lacks the save's solver, or is not empty and the save has no
+/// solver; or `Memory` if memory runs out. A save is the one text of a state that fits the
+/// declarations of the program of its source (`IsSavedBy`), whether or not a run reaches the state;
+/// that program must have no error, except perhaps in its choice of a solver. Letter case is
+/// ignored in names of solvers. The index is that of the first solver with the name; 0 if the save
+/// has no solver and the list is empty. If there is no fault, the bytes are the save of what is
+/// restored (`answer`).
 ///
 /// Take any state of any program of any source whose save the bytes are. It is restored, with that
-/// source and with the view of that program, unless memory runs out, the bytes are too long or no
-/// solver has the name (`back`). So no text is the save of two states that differ in more than the
-/// index of the solver; what `save` wrote is restored as it was, except for that index; and
-/// `SaveShape` comes only if no state has these bytes. There are fewer than 2^32 solvers.
+/// source and with the view of that program (its names, labels and statements), unless the fault is
+/// `Memory`, `SaveTooLong` or `SaveSolver` (`back`). So no text is the save of two states that
+/// differ in more than the index of the solver; and what `save` wrote is restored as it was, except
+/// for that index. There must be fewer than 2^32 solvers.
 pub fn restore(alloc: Global, bytes: &[u8], solvers: &[String]) -> Result<Saved, SaveFaultOrMemory>
     requires { length solvers.now < 2 ^ 32 }
     ensures answer { Restores (map string_bytes solvers.now) bytes.now result }

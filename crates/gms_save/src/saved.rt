@@ -3,17 +3,17 @@ use gms_ast::Program;
 use gms_store::Store;
 use gq_frac::Frac;
 
-/// What is restored from a save: the source that was run, its program, and the state after it.
+/// What is restored from a save: a source, its program, and a state of the program.
 ///
 /// The settings of the state have the index of the save's solver in the list of solvers of the run
 /// that resumes from the save.
 pub struct Saved {
-    /// The source that was run before the save, byte for byte.
+    /// The source in the save, byte for byte.
     pub source: Vec<u8>,
     /// The program of the saved source.
     pub program: Program<Frac>,
-    /// The state after the run of the saved source. Its settings have the index of the solver in
-    /// the list of solvers of the run that resumes from the save.
+    /// The saved state. Its settings have the index of the save's solver in the list of solvers of
+    /// the run that resumes from the save.
     pub store: Store<Frac>,
 }
 

@@ -40,7 +40,7 @@ IsWordForNone word = (word ≡ codes "-INF") ⊎ (word ≡ codes "+INF")
 
 -- ---- entries
 
--- a tuple can be read: it has `arity` labels, at most 10, and each is below 2^32
+-- a tuple can be read from a save: it has `arity` labels, at most 10, and each is below 2^32
 pub record IsReadableTuple (arity : ℕ) (t : List ℕ) : Type 0 where
   pub count : length t ≡ arity
   pub few : arity ≤ 10
@@ -86,8 +86,8 @@ filled state name content tuples = fold (λ state t. after_entry state name cont
 
 -- ---- names
 
--- The data of a content can be read for a name: the name's symbol has the same content, but without
--- data; the tuples of the entries are in order, and each entry can be read, with numerators and
+-- The data of `content` can be read for `symbol`, which has this content without its data. The
+-- tuples of the entries are distinct and ascend; each entry can be read, with numerators and
 -- denominators of at most `limit`; each of the two statuses fits into a byte.
 pub record IsReadablePart (limit : ℕ) (symbol : Symbol) (content : Content) : Type 0 where
   pub declared : symbol.content ≡ emptied content
@@ -97,9 +97,10 @@ pub record IsReadablePart (limit : ℕ) (symbol : Symbol) (content : Content) : 
   pub model : (statuses_in content).0 < 2 ^ 8
   pub solver : (statuses_in content).1 < 2 ^ 8
 
--- the data of each symbol of the second list, with numerators and denominators of at most `limit`,
--- can be read for the symbol at its index in the first list, which has the same domain; the lists
--- are equally long
+-- The first list has symbols without data, the second list symbols with data; the lists are equally
+-- long. A save's data of each symbol of the second list, with numerators and denominators of at
+-- most `limit`, can be read for the symbol at the same index in the first list, which has the same
+-- domain (`IsReadablePart`).
 abbrev pub AreReadable : ℕ → List Symbol → List Symbol → Type 0
 AreReadable limit [] [] = Unit {0}
 AreReadable limit (declared ∷ names) (symbol ∷ symbols) = (declared.domain ≡ symbol.domain) × IsReadablePart limit declared symbol.content × AreReadable limit names symbols

@@ -22,8 +22,8 @@ emptied (equation_of entries) = equation_of finite.empty
 emptied (model_with model solver) = model_with 0 0
 emptied content = content
 
--- the symbols of a state without data: the kind of each name, the sets of its positions, the types
--- of variables and the sets of aliases
+-- the symbols of a state, each without its data: the kind of each name, the sets of its positions,
+-- the types of variables and the sets of aliases
 abbrev pub declared_symbols : State → List Symbol
 declared_symbols state = map (λ (symbol : Symbol). with_content symbol (emptied symbol.content)) state.symbols
 
@@ -58,18 +58,18 @@ are_in_range settings =
 abbrev pub is_solver_byte : ℕ → Bool
 is_solver_byte byte = is_ascii_alphanumeric byte || byte == 95
 
--- whether a text has the form of the solver's name in a save, which the word `none` has too: a
--- letter, followed by at most 62 letters, digits and `_`
+-- whether a text has the form of a solver's name in a save: a letter, followed by at most 62
+-- letters, digits and `_`
 abbrev pub is_solver_name : List ℕ → Bool
 is_solver_name [] = false
 is_solver_name (first ∷ rest) = is_ascii_alphabetic first && (list_all is_solver_byte rest && nat_le (length rest) 62)
 
 -- ---- names
 
--- The data of a symbol are valid in a state with `labels` labels: the tuples are in order and in
--- the symbol's domain; the numerators and denominators of the numbers are at most `limit`; the
--- tuples are those whose entry differs from that of an element without data; and a model has the
--- two statuses of some end of a solve, or those before its first solve.
+-- The data of a symbol are valid in a state with `labels` labels. The tuples ascend strictly, by
+-- the first label numbers that differ, and are in the symbol's domain. They are exactly those whose
+-- entry differs from that of an element without data. Numerators and denominators are at most
+-- `limit`. A model has the two statuses of some end of a solve, or those before its first solve.
 pub record IsGivenWell (limit labels : ℕ) (state : State) (symbol : Symbol) : Type 0 where
   pub ordered : IsOrdered (given_in symbol.content)
   -- a tuple has at most 10 labels
@@ -79,12 +79,12 @@ pub record IsGivenWell (limit labels : ℕ) (state : State) (symbol : Symbol) : 
   pub differs : (t : List ℕ) → has (given_in symbol.content) t ≡ differs_in symbol.content t
   pub statuses : are_statuses (statuses_in symbol.content).0 (statuses_in symbol.content).1 ≡ true
 
--- A state is a saved one of a program: `declared` is the state of the program's declarations,
--- `loaded` the state with the data of these, `labels` the number of the program's labels, `limit`
--- the limit of numerators and denominators, and `assigned` tells which sets the program assigns.
--- The saved state declares what `declared` does, and the data of each name are valid; a set that
--- the program does not assign has the members of `loaded`; the settings are in their ranges; and
--- `solver` has the form of a solver's name.
+-- `state` is a saved state of a program. `declared` is the state of the program's declarations,
+-- `loaded` that with their data, `labels` the number of the program's labels, `limit` the limit of
+-- numerators and denominators, and `assigned` tells which sets the program assigns. `state`
+-- declares what `declared` does, and the data of each name are valid; a set that the program does
+-- not assign has the members of `loaded`; the settings are in their options' ranges; and `solver`
+-- has the form of a solver's name.
 pub record IsSavedOf (limit labels : ℕ) (declared loaded : State) (assigned : ℕ → Bool) (state : State) (solver : List ℕ) : Type 0 where
   pub declares : declared_symbols state ≡ declared_symbols declared
   pub given : (name : ℕ) → IsGivenWell limit labels state (symbol_at state name)

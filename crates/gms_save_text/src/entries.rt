@@ -24,7 +24,9 @@ pub(crate) struct Named {
     pub arity: usize,
 }
 
-/// Writes the entry of the first line of a text into a state, and answers the text after it.
+/// Writes the entry in the first line of `text` to the name `named` in `store`. The result is the
+/// text after this line. `Shape` occurs only if the line is no valid entry of the name; `Memory` is
+/// out of memory.
 fn read_entry<'t, F: ExactField>(
     alloc: Global,
     store: &mut Store<F>,

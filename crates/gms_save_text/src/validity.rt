@@ -32,8 +32,8 @@ pub fn are_in_range(settings: Settings) -> bool
         && settings.decimals <= 8
 }
 
-/// Whether a text has the form of the solver's name in a save, which the word `none` has too: a
-/// letter, followed by at most 62 letters, digits and `_`.
+/// Whether a text has the form of a solver's name in a save: a letter, followed by at most 62
+/// letters, digits and `_`.
 pub fn is_solver_name(text: &[u8]) -> bool
     ensures { result ≡ is_solver_name text.now }
 {
@@ -128,12 +128,12 @@ fn fits_domain<F: ExactField>(
     Ok(true)
 }
 
-/// Whether the data that a state has for the name with the number `name` are valid in a program
-/// with `labels` labels: the tuples are strictly sorted by the numbers of their labels, and have at
-/// most 10 labels; they are in the domain of the name, with labels whose numbers are below
-/// `labels`; they are exactly those whose entry differs from that of an element without data; the
-/// numerators and denominators are at most `F.limit` in magnitude; and a model has the two statuses
-/// of some end of a solve, or those before its first solve. The error is out of memory.
+/// Whether the data of the name with the number `name` in `store` are valid in a program with
+/// `labels` labels: the tuples ascend by the first label numbers that differ, and are those at
+/// which the data differ from those of an element without data. Each has at most 10 labels, one for
+/// each position. A label's number is below `labels`, and the label is in the position's set, if
+/// any. Numerators and denominators are at most `F.limit` in magnitude. A model has the two
+/// statuses of some end of a solve, or those before any solve. The error is out of memory.
 pub fn is_given_well<F: ExactField>(
     alloc: Global,
     store: &Store<F>,

@@ -17,7 +17,7 @@ use std::alloc::Global;
 
 /// The source in the text of a save, and the rest of the text after the source.
 ///
-/// The error `Shape` occurs only if the text is that of no save.
+/// The error `Shape` occurs only if `text` begins like no save.
 pub fn read_source(text: &[u8]) -> Result<(&[u8], &[u8]), ReadFault>
     ensures { (source rest : List ℕ) → text.now ≡ saved_line (codes "gams25 save 1") ++ (source_text source ++ rest) →
         Finds result (λ p. (p.0.now ≡ source) × (p.1.now ≡ rest)) }
@@ -73,13 +73,14 @@ fn settings_at(text: &[u8]) -> Result<(Settings, &[u8], &[u8]), ReadFault>
     Ok((settings, solver, rest))
 }
 
-/// Reads a state of `program` from `text`, the rest of a save after its source. The program gives
-/// the names. The text gives the state and the name of the solver; the index of the solver in the
-/// settings of the state is 0.
+/// Reads a state of `program` and the name of the solver from `text`, the rest of a save after its
+/// source. The program gives the names of the state's symbols.
 ///
-/// If the program has at most 2^32 labels, and the text is that of a saved state of it, the result
-/// is that state, except for that index. The result always declares what the program declares. The
-/// error `Shape` occurs only if the text is that of no such state. Other texts may be accepted too.
+/// If the program has at most 2^32 labels, and `text` is that of a saved state of the program
+/// (`IsSavedOf`) with a solver's name, the result is this state and this name. Only the solver's
+/// index in the settings becomes 0. In any other case the result may be some state and name, or the
+/// error `Shape`. The error `Memory`, out of memory, may always occur. Each result has the
+/// program's declarations.
 pub fn read_state<'t, F: ExactField>(
     alloc: Global,
     program: &Program<F>,
