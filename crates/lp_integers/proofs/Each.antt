@@ -24,7 +24,7 @@ word_at ws i = get_or ws i no_word
 pub word_there : (ws : List Word) (i : ℕ) → i < length ws → slice_get ws i ≡ Some (word_at ws i)
 word_there ws i less = slice_get-get_or ws i no_word less
 
-same_word : (w v : Word) → Some w ≡ Some v → w ≡ v
+pub same_word : (w v : Word) → Some w ≡ Some v → w ≡ v
 same_word w v h = cc
 
 -- a property of each number and of 0 holds at each place

@@ -1,6 +1,8 @@
 -- The loops over whole numbers, step by step.
-use Rattle.std.proofs.Common.{◌≡◌, ◌≢◌, ℕ, zero, suc, ◌+◌, ◌*◌, ◌<◌, ◌≤◌, ◌^◌, inl, inr, ℤ, pos, ◌-ℤ◌, ◌*ℤ◌, neg_ℤ, nat_abs, List, [], ◌∷◌, length, set, get_or, length-set, get_or-set_same, get_or-set_other, refl, sym, ap, ◌∙◌, subst, subst₂, arith}
-use Rattle.std.proofs.lemmas.Int.{ints}
+use Rattle.std.proofs.Common.{◌≡◌, ◌≢◌, ℕ, zero, suc, ◌+◌, ◌*◌, ◌<◌, ◌≤◌, ◌^◌, inl, inr, ◌-◌, ◌⊎◌, ℤ, pos, ◌-ℤ◌, ◌*ℤ◌, neg_ℤ, nat_abs, List, [], ◌∷◌, length, set, get_or, length-set, get_or-set_same, get_or-set_other, FitsSigned, to_z, of_z, refl, sym, ap, ap₂, ◌∙◌, subst, subst₂, arith}
+use Rattle.std.specs.Int.{Width, w64, w128}
+use mir.Val.{hbits}
+use Rattle.std.proofs.lemmas.Int.{ints, to_z-of_z, fits_signed_from_abs}
 use Rattle.std.proofs.lemmas.Bool.{cases_eq, cases_lt}
 use Rattle.gq_number.proofs.Whole.{nat_abs-*ℤ}
 use Rattle.lp_integers.specs.Lines.{whole_at, AreWithin, CombinationsStayWithin, AreLessenedTo, AreDividedTo, AreNegatedTo, AreLessened, AreOver, AreNegated}
@@ -20,18 +22,71 @@ read_within (n ∷ numbers) (suc c) default within = read_within numbers c defau
 difference_within : (u v : ℤ) → nat_abs (u -ℤ v) ≤ nat_abs u + nat_abs v
 difference_within u v = omega (arith, ints)
 
--- the steps on one number stay below 2^127
-pub record StepsHaveBound (a b n x : ℤ) : Type 0 where
-  pub first : nat_abs (a *ℤ n) < 2 ^ 127
-  pub second : nat_abs (b *ℤ x) < 2 ^ 127
-  pub left : nat_abs (a *ℤ n -ℤ b *ℤ x) < 2 ^ 127
+-- the steps on one number stay below a limit
+pub record StepsHaveBound (limit : ℕ) (a b n x : ℤ) : Type 0 where
+  pub first : nat_abs (a *ℤ n) < limit
+  pub second : nat_abs (b *ℤ x) < limit
+  pub left : nat_abs (a *ℤ n -ℤ b *ℤ x) < limit
 
-pub steps_have_bound : (a b n x : ℤ) → nat_abs a * nat_abs n + nat_abs b * nat_abs x < 2 ^ 127 → StepsHaveBound a b n x
-steps_have_bound a b n x h =
+pub steps_have_bound : (limit : ℕ) (a b n x : ℤ) → nat_abs a * nat_abs n + nat_abs b * nat_abs x < limit → StepsHaveBound limit a b n x
+steps_have_bound limit a b n x h =
     let e = nat_abs-*ℤ a n in
     let f = nat_abs-*ℤ b x in
     let k = difference_within (a *ℤ n) (b *ℤ x) in
     record { first = omega arith; second = omega arith; left = omega arith }
+
+below_limit : (limit n : ℕ) → 0 < limit → n ≤ limit - 1 → n < limit
+below_limit limit n some h = omega arith
+
+-- what is read back of a number that was stored
+abbrev pub stored : Width → ℤ → ℤ
+stored w z = to_z w (of_z w z)
+
+-- the product of stored numbers is theirs, and it fits if its magnitude is small
+module _ (w : Width) (a n : ℤ) (a_fits : FitsSigned w a) (n_fits : FitsSigned w n) where
+  pub stored_product : stored w a *ℤ stored w n ≡ a *ℤ n
+  stored_product = ap₂ (λ u v. u *ℤ v) (to_z-of_z w a a_fits) (to_z-of_z w n n_fits)
+
+  module _ (small : nat_abs (a *ℤ n) < 2 ^ hbits w) where
+    pub product_fits : FitsSigned w (stored w a *ℤ stored w n)
+    product_fits = subst (FitsSigned w) (sym stored_product) (fits_signed_from_abs w (a *ℤ n) small)
+
+    pub product_again : stored w (stored w a *ℤ stored w n) ≡ a *ℤ n
+    product_again = to_z-of_z w (stored w a *ℤ stored w n) product_fits ∙ stored_product
+
+-- a number of two words whose magnitude is below 2^63 is the same in one word
+pub small_fits : (z : ℤ) (m : ℕ) → FitsSigned w128 z → m ≡ nat_abs (stored w128 z) → m < 2 ^ 63 → FitsSigned w64 (stored w128 z)
+small_fits z m fits is less = fits_signed_from_abs w64 (stored w128 z) (subst (λ n. n < 2 ^ 63) is less)
+
+pub small_again : (z : ℤ) (m : ℕ) → FitsSigned w128 z → m ≡ nat_abs (stored w128 z) → m < 2 ^ 63 → stored w64 (stored w128 z) ≡ z
+small_again z m fits is less = to_z-of_z w64 (stored w128 z) (small_fits z m fits is less) ∙ to_z-of_z w128 z fits
+
+-- The steps of `lessen` on one number, on numbers that are stored.
+module _ (w : Width) (limit : ℕ) (a b n x : ℤ) (some : 0 < limit) (within : nat_abs a * nat_abs n + nat_abs b * nat_abs x ≤ limit - 1) (a_fits : FitsSigned w a) (n_fits : FitsSigned w n) where
+  steps : StepsHaveBound limit a b n x
+  steps = steps_have_bound limit a b n x (below_limit limit (nat_abs a * nat_abs n + nat_abs b * nat_abs x) some within)
+
+  pub first_below : nat_abs (stored w a *ℤ stored w n) < limit
+  first_below = subst₂ (λ u v. nat_abs (u *ℤ v) < limit) (sym (to_z-of_z w a a_fits)) (sym (to_z-of_z w n n_fits)) steps.first
+
+  module _ (b_fits : FitsSigned w b) (x_fits : FitsSigned w x) where
+    pub second_below : nat_abs (stored w b *ℤ stored w x) < limit
+    second_below = subst₂ (λ u v. nat_abs (u *ℤ v) < limit) (sym (to_z-of_z w b b_fits)) (sym (to_z-of_z w x x_fits)) steps.second
+
+    module _ (first second : ℤ) (first_fits : FitsSigned w first) (second_fits : FitsSigned w second) (first_is : first ≡ stored w a *ℤ stored w n) (second_is : second ≡ stored w b *ℤ stored w x) where
+      first_product : stored w first ≡ a *ℤ n
+      first_product = to_z-of_z w first first_fits ∙ first_is ∙ stored_product w a n a_fits n_fits
+
+      second_product : stored w second ≡ b *ℤ x
+      second_product = to_z-of_z w second second_fits ∙ second_is ∙ stored_product w b x b_fits x_fits
+
+      pub left_below : nat_abs (stored w first -ℤ stored w second) < limit
+      left_below = subst₂ (λ u v. nat_abs (u -ℤ v) < limit) (sym first_product) (sym second_product) steps.left
+
+      pub left_is : (left : ℤ) → FitsSigned w left → left ≡ stored w first -ℤ stored w second → stored w left ≡ stored w a *ℤ n -ℤ stored w b *ℤ x
+      left_is left left_fits is =
+          to_z-of_z w left left_fits ∙ is
+          ∙ ap₂ (λ u v. u -ℤ v) (first_product ∙ ap (λ u. u *ℤ n) (sym (to_z-of_z w a a_fits))) (second_product ∙ ap (λ u. u *ℤ x) (sym (to_z-of_z w b b_fits)))
 
 -- one more number is written
 module _ (before after : List ℤ) (n : ℕ) (v : ℤ) (within : n < length after) where
@@ -47,6 +102,14 @@ left_within a b n x m h =
     let f = nat_abs-*ℤ b x in
     let k = difference_within (a *ℤ n) (b *ℤ x) in
     omega arith
+
+-- the greater of an old bound and the magnitude of a difference is within what bounds both
+pub greater_within : (a b n x v : ℤ) (old most m : ℕ) → v ≡ a *ℤ n -ℤ b *ℤ x → nat_abs a * nat_abs n + nat_abs b * nat_abs x ≤ m → old ≤ m → (most ≡ old) ⊎ (most ≡ nat_abs v) → most ≤ m
+greater_within a b n x v old most m is within before one =
+    elim one [
+      | inl e ↦ subst (λ k. k ≤ m) (sym e) before
+      | inr e ↦ subst (λ k. k ≤ m) (sym e) (subst (λ z. nat_abs z ≤ m) (sym is) (left_within a b n x m within))
+    ]
 
 pub lessened_more : (a b : ℤ) (before others after : List ℤ) (n most : ℕ) (v : ℤ) (more : ℕ) → AreLessenedTo a b before others after n most → n < length after → v ≡ a *ℤ whole_at before n -ℤ b *ℤ whole_at others n → most ≤ more → nat_abs v ≤ more → ((m : ℕ) → CombinationsStayWithin m a b before others → more ≤ m) → AreLessenedTo a b before others (set after n v) (n + 1) more
 lessened_more a b before others after n most v more h within is grows high small =
@@ -130,6 +193,9 @@ negated_all before after n all h =
 
 magnitude_negated : (n : ℤ) → nat_abs (neg_ℤ n) ≡ nat_abs n
 magnitude_negated n = omega (arith, ints)
+
+pub negative_below : (n : ℤ) (limit : ℕ) → nat_abs n < limit → nat_abs (pos 0 -ℤ n) < limit
+negative_below n limit h = subst (λ m. m < limit) (sym (ap nat_abs (negative n) ∙ magnitude_negated n)) h
 
 pub negated_within : (before after : List ℤ) (most : ℕ) → AreNegated before after → AreWithin before most → AreWithin after most
 negated_within before after most h within = λ c. subst (λ m. m ≤ most) (sym (ap nat_abs (h.numbers c) ∙ magnitude_negated (whole_at before c))) (within c)

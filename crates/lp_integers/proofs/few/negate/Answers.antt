@@ -1,7 +1,8 @@
+-- One more number is negated, which keeps its magnitude.
 use Rattle.std.proofs.Common.{rules, pos, nat_abs, ◌≡◌, ◌<◌, ◌^◌, ◌-ℤ◌, neg_ℤ, FitsSigned, to_z, of_z, w64, sym, ap, ◌∙◌, subst, arith}
-use Rattle.std.proofs.lemmas.Int.{ints, to_z-of_z}
+use Rattle.std.proofs.lemmas.Int.{to_z-of_z}
 use Rattle.lp_integers.specs.declared.few.Word.{Word}
-use Rattle.lp_integers.proofs.Lines.{negative}
+use Rattle.lp_integers.proofs.Lines.{negative, negative_below}
 use Rattle.lp_integers.proofs.Each.{word_at, matched_none, matched_next, matched_more, matched_all}
 use Rattle.lp_integers.proofs.few.negate.Goals as goal
 
@@ -15,7 +16,7 @@ difference-number-requires c =
     let is : to_z w64 (of_z w64 w.number) ≡ w.number = to_z-of_z w64 w.number fits in
     let there = matched_next (λ x y. y ≡ neg_ℤ x) c.args.words.now c.loop-i.words c.loop-i.i c.loop-i.invariant (omega arith) in
     let small : nat_abs w.number < 2 ^ 63 = c.requires c.loop-i.i w there in
-    subst (λ z. nat_abs (pos 0 -ℤ z) < 2 ^ 63) (sym is) (omega (arith, ints))
+    subst (λ z. nat_abs (pos 0 -ℤ z) < 2 ^ 63) (sym is) (negative_below w.number (2 ^ 63) small)
 
 pub loop-i-preserved : goal.loop-i-preserved
 loop-i-preserved c =

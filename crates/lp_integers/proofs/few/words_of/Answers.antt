@@ -1,4 +1,5 @@
-use Rattle.std.proofs.Common.{rules, ◌≡◌, ◌≤◌, ◌-◌, ◌^◌, ℤ, inl, inr, pos, nat_abs, slice_index_or, FitsSigned, to_z, of_z, w64, sym, ◌∙◌, subst, arith}
+-- One more number is a word, unless it is 0; past the end of the list each number is 0.
+use Rattle.std.proofs.Common.{rules, ◌≡◌, ◌≤◌, ◌-◌, ◌^◌, ℤ, inl, inr, pos, nat_abs, slice_index_or, FitsSigned, to_z, of_z, w64, sym, ◌∙◌, subst, le_refl, arith}
 use Rattle.std.proofs.lemmas.Int.{to_z-of_z}
 use Rattle.std.proofs.lemmas.Bool.{cases_lt, cases_eq}
 use Rattle.lp_integers.specs.Lines.{whole_at}
@@ -17,9 +18,9 @@ loop-place-preserved c =
     let small : nat_abs z ≤ 2 ^ 63 - 1 = subst (λ x. nat_abs x ≤ 2 ^ 63 - 1) (sym is) (c.requires c.loop-place.place) in
     let old = c.loop-place.invariant in
     let p = c.in_ok-push_unless_zero.ensures in (
-      pushed_words c.loop-place.words.items c.push_unless_zero.new.words.items (2 ^ 63 - 1) c.loop-place.place c.loop-place.place z old.0 (omega arith) small p,
+      pushed_words c.loop-place.words.items c.push_unless_zero.new.words.items (2 ^ 63 - 1) c.loop-place.place c.loop-place.place z old.0 (le_refl c.loop-place.place) small p,
       λ k less. elim (cases_eq k c.loop-place.place) [
-        | inl same ↦ subst (λ j. whole_at c.args.numbers.now j ≡ stored_number c.push_unless_zero.new.words.items j) (sym same) (sym is ∙ sym (pushed_here c.loop-place.words.items c.push_unless_zero.new.words.items (2 ^ 63 - 1) c.loop-place.place c.loop-place.place z old.0 (omega arith) p))
+        | inl same ↦ subst (λ j. whole_at c.args.numbers.now j ≡ stored_number c.push_unless_zero.new.words.items j) (sym same) (sym is ∙ sym (pushed_here c.loop-place.words.items c.push_unless_zero.new.words.items (2 ^ 63 - 1) c.loop-place.place c.loop-place.place z old.0 (le_refl c.loop-place.place) p))
         | inr other ↦ old.1 k (omega arith) ∙ sym (pushed_other c.loop-place.words.items c.push_unless_zero.new.words.items c.loop-place.place k z (λ s. other (sym s)) p)
       ],
     )

@@ -1,4 +1,5 @@
-use Rattle.std.proofs.Common.{rules, ℤ, pos, nat_abs, ◌≡◌, ◌*ℤ◌, slice_index_or, FitsSigned, to_z, of_z, w64, sym, ap, ◌∙◌, subst, arith}
+-- One more number is divided, which the divisor divides.
+use Rattle.std.proofs.Common.{rules, ℤ, pos, nat_abs, ◌≡◌, ◌*ℤ◌, slice_index_or, FitsSigned, to_z, of_z, w64, sym, ap, ◌∙◌, subst, le_refl, arith}
 use Rattle.std.specs.Int.{◌∣◌}
 use Rattle.std.proofs.lemmas.Int.{to_z-of_z}
 use Rattle.lp_integers.proofs.Lines.{divided_more, divided_all}
@@ -8,7 +9,7 @@ pub quotient-over-requires-clause-divides : goal.quotient-over-requires-clause-d
 quotient-over-requires-clause-divides c =
     let number : ℤ = slice_index_or c.loop-c.numbers c.loop-c.c (pos 0) in
     let fits : FitsSigned w64 number = search rules in
-    let before = c.loop-c.invariant.left c.loop-c.c (omega arith) in
+    let before = c.loop-c.invariant.left c.loop-c.c (le_refl c.loop-c.c) in
     let divides : c.args.divisor ∣ nat_abs (to_z w64 (of_z w64 number)) =
     subst (λ z. c.args.divisor ∣ nat_abs z) (sym before ∙ sym (to_z-of_z w64 number fits)) (c.requires.divides c.loop-c.c) in
     subst (λ d. d ∣ nat_abs (to_z w64 (of_z w64 number))) (sym c.of-quick.ensures) divides
@@ -18,7 +19,7 @@ loop-c-preserved c =
     let number : ℤ = slice_index_or c.loop-c.numbers c.loop-c.c (pos 0) in
     let fits : FitsSigned w64 number = search rules in
     let fits_over : FitsSigned w64 c.quotient-over.result = search rules in
-    let before = c.loop-c.invariant.left c.loop-c.c (omega arith) in
+    let before = c.loop-c.invariant.left c.loop-c.c (le_refl c.loop-c.c) in
     let over : c.quotient-over.result *ℤ pos c.args.divisor ≡ to_z w64 (of_z w64 number) =
     subst (λ d. c.quotient-over.result *ℤ pos d ≡ to_z w64 (of_z w64 number)) c.of-quick.ensures c.quotient-over.ensures in
     divided_more c.args.divisor c.args.numbers.now c.loop-c.numbers c.loop-c.c (to_z w64 (of_z w64 c.quotient-over.result)) c.loop-c.invariant (omega arith)

@@ -1,7 +1,8 @@
-use Rattle.std.proofs.Common.{rules, ◌≡◌, ◌<◌, ◌^◌, ◌-ℤ◌, pos, nat_abs, ℤ, slice_index_or, FitsSigned, to_z, of_z, w64, sym, ap, ◌∙◌, subst, arith}
-use Rattle.std.proofs.lemmas.Int.{ints, to_z-of_z}
+-- One more number is negated, which keeps its magnitude.
+use Rattle.std.proofs.Common.{rules, ◌≡◌, ◌<◌, ◌^◌, ◌-ℤ◌, pos, nat_abs, ℤ, slice_index_or, FitsSigned, to_z, of_z, w64, sym, ap, ◌∙◌, subst, le_refl, arith}
+use Rattle.std.proofs.lemmas.Int.{to_z-of_z}
 use Rattle.lp_integers.specs.Lines.{whole_at}
-use Rattle.lp_integers.proofs.Lines.{negated_more, negated_all, negative}
+use Rattle.lp_integers.proofs.Lines.{negated_more, negated_all, negative, negative_below}
 use Rattle.lp_integers.proofs.narrow.negate.Goals as goal
 
 pub difference-negated-requires : goal.difference-negated-requires
@@ -9,16 +10,16 @@ difference-negated-requires c =
     let number : ℤ = slice_index_or c.loop-c.numbers c.loop-c.c (pos 0) in
     let fits : FitsSigned w64 number = search rules in
     let is : to_z w64 (of_z w64 number) ≡ number = to_z-of_z w64 number fits in
-    let before = c.loop-c.invariant.left c.loop-c.c (omega arith) in
+    let before = c.loop-c.invariant.left c.loop-c.c (le_refl c.loop-c.c) in
     let small : nat_abs number < 2 ^ 63 = subst (λ z. nat_abs z < 2 ^ 63) (sym before) (c.requires c.loop-c.c) in
-    subst (λ z. nat_abs (pos 0 -ℤ z) < 2 ^ 63) (sym is) (omega (arith, ints))
+    subst (λ z. nat_abs (pos 0 -ℤ z) < 2 ^ 63) (sym is) (negative_below number (2 ^ 63) small)
 
 pub loop-c-preserved : goal.loop-c-preserved
 loop-c-preserved c =
     let number : ℤ = slice_index_or c.loop-c.numbers c.loop-c.c (pos 0) in
     let fits : FitsSigned w64 number = search rules in
     let fits_negated : FitsSigned w64 c.difference-negated.result = search rules in
-    let before = c.loop-c.invariant.left c.loop-c.c (omega arith) in
+    let before = c.loop-c.invariant.left c.loop-c.c (le_refl c.loop-c.c) in
     negated_more c.args.numbers.now c.loop-c.numbers c.loop-c.c (to_z w64 (of_z w64 c.difference-negated.result)) c.loop-c.invariant (omega arith)
     (to_z-of_z w64 c.difference-negated.result fits_negated ∙ c.difference-negated.ensures ∙ ap (λ z. pos 0 -ℤ z) (to_z-of_z w64 number fits ∙ before) ∙ negative (whole_at c.args.numbers.now c.loop-c.c))
 

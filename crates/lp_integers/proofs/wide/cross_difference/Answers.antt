@@ -6,11 +6,11 @@ use Rattle.lp_integers.proofs.wide.cross_difference.Goals as goal
 
 pub product-first-requires : goal.product-first-requires
 product-first-requires c =
-    subst₂ (λ x y. nat_abs (x *ℤ y) < 2 ^ 127) (sym (to_z-of_z w128 c.args.a c.ranges.a)) (sym (to_z-of_z w128 c.args.n c.ranges.n)) (steps_have_bound c.args.a c.args.b c.args.n c.args.x c.requires).first
+    subst₂ (λ x y. nat_abs (x *ℤ y) < 2 ^ 127) (sym (to_z-of_z w128 c.args.a c.ranges.a)) (sym (to_z-of_z w128 c.args.n c.ranges.n)) (steps_have_bound (2 ^ 127) c.args.a c.args.b c.args.n c.args.x c.requires).first
 
 pub product-second-requires : goal.product-second-requires
 product-second-requires c =
-    subst₂ (λ x y. nat_abs (x *ℤ y) < 2 ^ 127) (sym (to_z-of_z w128 c.args.b c.ranges.b)) (sym (to_z-of_z w128 c.args.x c.ranges.x)) (steps_have_bound c.args.a c.args.b c.args.n c.args.x c.requires).second
+    subst₂ (λ x y. nat_abs (x *ℤ y) < 2 ^ 127) (sym (to_z-of_z w128 c.args.b c.ranges.b)) (sym (to_z-of_z w128 c.args.x c.ranges.x)) (steps_have_bound (2 ^ 127) c.args.a c.args.b c.args.n c.args.x c.requires).second
 
 pub difference-requires : goal.difference-requires
 difference-requires c =
@@ -20,7 +20,7 @@ difference-requires c =
     to_z-of_z w128 c.product-first.result fits_first ∙ c.product-first.ensures ∙ ap₂ (λ x y. x *ℤ y) (to_z-of_z w128 c.args.a c.ranges.a) (to_z-of_z w128 c.args.n c.ranges.n) in
     let second : to_z w128 (of_z w128 c.product-second.result) ≡ c.args.b *ℤ c.args.x =
     to_z-of_z w128 c.product-second.result fits_second ∙ c.product-second.ensures ∙ ap₂ (λ x y. x *ℤ y) (to_z-of_z w128 c.args.b c.ranges.b) (to_z-of_z w128 c.args.x c.ranges.x) in
-    subst₂ (λ x y. nat_abs (x -ℤ y) < 2 ^ 127) (sym first) (sym second) (steps_have_bound c.args.a c.args.b c.args.n c.args.x c.requires).left
+    subst₂ (λ x y. nat_abs (x -ℤ y) < 2 ^ 127) (sym first) (sym second) (steps_have_bound (2 ^ 127) c.args.a c.args.b c.args.n c.args.x c.requires).left
 
 pub returns : goal.returns
 returns c =

@@ -1,20 +1,31 @@
-use Rattle.std.proofs.Common.{◌≡◌, ◌<◌, ◌^◌, ℤ, nat_abs, to_z, of_z, w64, refl, ap, ◌∙◌, subst}
+-- Where the bounds are below 2^63 the factors are the same in one word.
+use Rattle.std.proofs.Common.{◌≡◌, ◌-◌, ◌≤◌, ◌^◌, w64, refl, sym, subst, subst₂, le_trans, arith}
 use Rattle.std.specs.Prelude.{MatchOption}
 use Rattle.std.specs.Int.{w128}
-use Rattle.std.proofs.lemmas.Int.{to_z-of_z, fits_signed_from_abs}
-use Rattle.lp_integers.specs.Lines.{AreLessened}
-use Rattle.lp_integers.proofs.Lines.{same_lessened}
+use Rattle.lp_integers.specs.Lines.{CombinationsStayWithin, AreLessened}
+use Rattle.lp_integers.proofs.Lines.{stored, small_fits, small_again, same_lessened}
 use Rattle.lp_integers.proofs.numbers.Numbers.lessen.Goals as goal
+
+pub overflow_cast-a : goal.overflow_cast-a
+overflow_cast-a c = small_fits c.args.a c.unsigned_abs.result c.ranges.a c.unsigned_abs.ensures.value c.if-unsigned_abs-lt-HALF.true
+
+pub overflow_cast-b : goal.overflow_cast-b
+overflow_cast-b c =
+    small_fits c.args.b c.unsigned_abs-then-unsigned_abs-lt-HALF.result c.ranges.b c.unsigned_abs-then-unsigned_abs-lt-HALF.ensures.value c.if-unsigned_abs-lt-HALF-2.true
+
+pub lessen_words-requires-clause-within_bound : goal.lessen_words-requires-clause-within_bound
+lessen_words-requires-clause-within_bound c =
+    let a_is = small_again c.args.a c.unsigned_abs.result c.ranges.a c.unsigned_abs.ensures.value c.if-unsigned_abs-lt-HALF.true in
+    let b_is = small_again c.args.b c.unsigned_abs-then-unsigned_abs-lt-HALF.result c.ranges.b c.unsigned_abs-then-unsigned_abs-lt-HALF.ensures.value c.if-unsigned_abs-lt-HALF-2.true in
+    let small : c.args.within_bound ≤ 2 ^ 63 - 1 = omega arith in
+    subst₂ (λ a b. CombinationsStayWithin (2 ^ 63 - 1) a b c.args.self.now c.args.others.now) (sym a_is) (sym b_is) (λ k. le_trans (c.requires.within_bound k) small)
 
 pub returns-in-Some : goal.returns-in-Some
 returns-in-Some c =
-    let a_is : to_z w128 (of_z w128 c.args.a) ≡ c.args.a = to_z-of_z w128 c.args.a c.ranges.a in
-    let b_is : to_z w128 (of_z w128 c.args.b) ≡ c.args.b = to_z-of_z w128 c.args.b c.ranges.b in
-    let small_a : nat_abs c.args.a < 2 ^ 63 = subst (λ n. n < 2 ^ 63) (c.unsigned_abs.ensures.value ∙ ap nat_abs a_is) c.if-unsigned_abs-lt-HALF.true in
-    let small_b : nat_abs c.args.b < 2 ^ 63 = subst (λ n. n < 2 ^ 63) (c.unsigned_abs-then-unsigned_abs-lt-HALF.ensures.value ∙ ap nat_abs b_is) c.if-unsigned_abs-lt-HALF-2.true in
-    let a : ℤ = to_z w64 (of_z w64 (to_z w128 (of_z w128 c.args.a))) in
-    let b : ℤ = to_z w64 (of_z w64 (to_z w128 (of_z w128 c.args.b))) in
+    let a_is = small_again c.args.a c.unsigned_abs.result c.ranges.a c.unsigned_abs.ensures.value c.if-unsigned_abs-lt-HALF.true in
+    let b_is = small_again c.args.b c.unsigned_abs-then-unsigned_abs-lt-HALF.result c.ranges.b c.unsigned_abs-then-unsigned_abs-lt-HALF.ensures.value c.if-unsigned_abs-lt-HALF-2.true in
+    let a = stored w64 (stored w128 c.args.a) in
+    let b = stored w64 (stored w128 c.args.b) in
     let lessened : AreLessened a b c.args.self.now c.args.others.now c.lessen_words.new.self c.in-Some.most =
     subst (λ o. MatchOption o (c.lessen_words.new.self ≡ c.args.self.now) (AreLessened a b c.args.self.now c.args.others.now c.lessen_words.new.self)) c.in-Some.is c.in_ok-most.ensures in
-    same_lessened (ap (λ z. to_z w64 (of_z w64 z)) a_is ∙ to_z-of_z w64 c.args.a (fits_signed_from_abs w64 c.args.a small_a))
-    (ap (λ z. to_z w64 (of_z w64 z)) b_is ∙ to_z-of_z w64 c.args.b (fits_signed_from_abs w64 c.args.b small_b)) refl refl refl lessened
+    same_lessened a_is b_is refl refl refl lessened

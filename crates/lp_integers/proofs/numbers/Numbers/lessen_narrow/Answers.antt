@@ -1,13 +1,28 @@
+-- Where both lists have one word for each number, the loop's list is this list, and so is what it
+-- leaves.
 use Rattle.std.proofs.Common.{◌≡◌, ◌^◌, ◌-◌, length, w64, refl, sym, ap, ◌∙◌, subst, subst₂}
 use Rattle.std.specs.Prelude.{MatchOption}
 use Rattle.std.proofs.lemmas.Int.{to_z-of_z}
 use Rattle.std.proofs.lemmas.List.{with_items_is}
-use Rattle.lp_integers.specs.Lines.{AreWithin, AreLessened}
+use Rattle.lp_integers.specs.Lines.{AreWithin, CombinationsStayWithin, AreLessened}
 use Rattle.lp_integers.specs.Widths.{listed}
 use Rattle.lp_integers.specs.contracts.numbers.Numbers.{the_invariant, the_view}
 use Rattle.lp_integers.proofs.Lines.{lessened_within, same_lessened}
 use Rattle.lp_integers.proofs.numbers.Numbers.lessen_narrow.Goals as goal
 use Rattle.lp_integers.proofs.numbers.Numbers.lessen_narrow.Goals.{in-Narrow-kept, in-Few, in-Wide}
+
+pub lessen-most-requires-clause-sized : goal.lessen-most-requires-clause-sized
+lessen-most-requires-clause-sized c =
+    let own_is = c.as_mut_slice.ensures.value ∙ sym (ap listed c.in-Narrow-kept.is) ∙ c.self.view_is in
+    let other_is = c.as_slice.ensures.value ∙ sym (ap listed c.in-Narrow.is) ∙ c.others.view_is in
+    ap length other_is ∙ c.requires.sized ∙ sym (ap length own_is)
+
+pub lessen-most-requires-clause-within_bound : goal.lessen-most-requires-clause-within_bound
+lessen-most-requires-clause-within_bound c =
+    let own_is = c.as_mut_slice.ensures.value ∙ sym (ap listed c.in-Narrow-kept.is) ∙ c.self.view_is in
+    let other_is = c.as_slice.ensures.value ∙ sym (ap listed c.in-Narrow.is) ∙ c.others.view_is in
+    subst₂ (λ a b. CombinationsStayWithin (2 ^ 63 - 1) a b c.as_mut_slice.result.now c.as_slice.result.now) (sym (to_z-of_z w64 c.args.a c.ranges.a)) (sym (to_z-of_z w64 c.args.b c.ranges.b))
+    (subst₂ (CombinationsStayWithin (2 ^ 63 - 1) c.args.a c.args.b) (sym own_is) (sym other_is) c.requires.within_bound)
 
 pub invariant_of-self : goal.invariant_of-self
 invariant_of-self c = elim c.match-self.branch [
