@@ -12,7 +12,7 @@ use Rattle.lp_core.specs.declared.program.Lp.{Lp}
 use Rattle.lp_core.specs.Feasible.{KeepsLower, KeepsUpper, KeepsBounds, KeepsSense, KeepsRow, bound_value, Feasible}
 use Rattle.lp_core.specs.Numbers.{entries_numbers, column_numbers, row_numbers, lp_numbers}
 use Rattle.lp_core.specs.Sums.{value_of_column, row_sum}
-use Rattle.gms_laws.proofs.Bounds.{IsPlaced}
+use Rattle.lp_core.proofs.Duality.{IsPlaced}
 
 -- a number is what it means
 abbrev pub itself : Number → Number

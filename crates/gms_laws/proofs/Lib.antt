@@ -1,4 +1,3 @@
-pub mod Bounds
 pub mod Answered
 pub mod Carried
 pub mod Programs
@@ -15,7 +14,6 @@ mod ComputedModels
 mod Executions
 mod FaultlessStatements
 pub mod GeneratedSizes
-mod InRuns
 mod KeptEntries
 mod LastGiven
 mod LocalTexts

@@ -25,7 +25,8 @@ use Rattle.lp_core.specs.Feasible.{Feasible}
 use Rattle.lp_core.specs.Numbers.{column_numbers, lp_numbers, end_numbers}
 use Rattle.lp_core.specs.Proofs.{ProvesOptimal, ProvesUnbounded, further}
 use Rattle.lp_core.specs.Sums.{value_of_column}
-use Rattle.lp_core.proofs.Rays.{passes_above, passes_below, none_between}
+use Rattle.lp_core.proofs.Duality.{IsPlaced, above-placed, below-placed, none-placed}
+use Rattle.lp_core.proofs.Rays.{further_feasible, passes_above, passes_below, none_between}
 use Rattle.lp_form.specs.declared.key.Key.{Key}
 use Rattle.gms_rows.specs.ElementRows.{sets_of_definition}
 use Rattle.gms_rows.specs.ModelPoints.{IsLinearDefinition, KeepsDefinition, column_elements, definitions_of_model}
@@ -36,7 +37,6 @@ use Rattle.gms_rows.proofs.RowKeys.{sourced}
 use Rattle.gms_rows.proofs.RowsAtPoints.{lp-feasible}
 use Rattle.gms_laws.specs.Plans.{Plan, Question, IsBetter, IsFeasible, IsOptimal, AreLevels, IsSo}
 use Rattle.gms_laws.proofs.Answered.{Proves}
-use Rattle.gms_laws.proofs.Bounds.{IsPlaced, bound_above, bound_below, none_feasible, further_feasible}
 use Rattle.gms_laws.proofs.Carried.{itself, feasible-numbers, feasible-values, placed-values}
 use Rattle.gms_laws.proofs.Instances.{IsShort, satisfied-keeps, keeps-satisfied}
 use Rattle.gms_laws.proofs.Programs.{IsProgram, column-values, program-known, plan_at, plan-levels}
@@ -136,10 +136,10 @@ module _ {F : Type 0} (v : F → Number) (limit : ℕ) (statements : List (Stmt 
     module _ (levels row_levels duals reduced : List Number) (proves : ProvesOptimal v own levels row_levels duals reduced) where
       none-better : (plan : Plan) → map plan listed ≡ levels → (other : Plan) → IsFeasible v limit question other → (b : Bool) → maximize ≡ b → IsBetter b (other goal) (plan goal) → ⊥
       none-better plan has other feasible true to better =
-          let most = bound_above v own placed duals (map other listed) (value_of_column levels own.objective) (there other feasible) (direction ∙ to) proves.bound in
+          let most = above-placed v own duals (map other listed) (value_of_column levels own.objective) placed (there other feasible) (direction ∙ to) proves.bound in
           Order.<ℚ_irrefl (plan goal) (Order.<ℚ-≤ℚ_trans (plan goal) (other goal) (plan goal) better (subst (λ (x : Number). other goal ≤ℚ x) (level-of plan levels has) (subst (λ (x : Number). x ≤ℚ value_of_column levels own.objective) (level other) most)))
       none-better plan has other feasible false to better =
-          let least = bound_below v own placed duals (map other listed) (value_of_column levels own.objective) (there other feasible) (direction ∙ to) proves.bound in
+          let least = below-placed v own duals (map other listed) (value_of_column levels own.objective) placed (there other feasible) (direction ∙ to) proves.bound in
           Order.<ℚ_irrefl (other goal) (Order.<ℚ-≤ℚ_trans (other goal) (plan goal) (other goal) better (subst (λ (x : Number). x ≤ℚ other goal) (level-of plan levels has) (subst (λ (x : Number). value_of_column levels own.objective ≤ℚ x) (level other) least)))
 
       optimal-levels : AreLevels v limit question (IsOptimal v limit question) levels
@@ -173,7 +173,7 @@ module _ {F : Type 0} (v : F → Number) (limit : ℕ) (statements : List (Stmt 
     pub end-is-so : (end : End F) → Proves v own end → IsSo v limit question (end_numbers v end)
     end-is-so (Optimal levels row_levels duals reduced) proves = optimal-levels (map v levels) (map v row_levels) (map v duals) (map v reduced) proves
     end-is-so (Infeasible duals None) proves =
-        λ plan feasible. none_feasible v own placed (map v duals) (map plan listed) proves.above.0 proves.above.1 proves.above.2 (there plan feasible)
+        λ plan feasible. none-placed v own (map v duals) (map plan listed) proves.above.0 placed proves.above.1 proves.above.2 (there plan feasible)
     end-is-so (Infeasible duals (Some j)) proves = λ plan feasible. none_between v own j (map v duals) (map plan listed) proves (there plan feasible)
     end-is-so (Unbounded levels row_levels ray) proves =
         (feasible-levels (map v levels) proves.feasible, λ number. passes (map v levels) (map v row_levels) (map v ray) proves number maximize refl)

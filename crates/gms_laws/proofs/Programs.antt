@@ -18,6 +18,7 @@ use Rattle.lp_core.specs.declared.program.Row.{Row}
 use Rattle.lp_core.specs.declared.program.Lp.{Lp}
 use Rattle.lp_core.specs.Sums.{value_of_column}
 use Rattle.lp_core.specs.WellFormed.{standard_rows, standard_columns}
+use Rattle.lp_core.proofs.Duality.{IsPlaced}
 use Rattle.lp_form.specs.declared.key.Key.{Key}
 use Rattle.lp_form.specs.Keys.{key_cmp, same_key, AreOrdered}
 use Rattle.lp_form.proofs.KeyOrder.{first-before, rest-ordered, same_key-Less, same_key_refl}
@@ -30,7 +31,6 @@ use Rattle.gms_rows.proofs.Domains.{given, only_value}
 use Rattle.gms_rows.proofs.KeyLists.{keys-ordered}
 use Rattle.gms_rows.proofs.Placing.{occurs-in_place, place-within}
 use Rattle.gms_rows.proofs.Programs.{all-of_map, map-keeps, map-itself, keys-there}
-use Rattle.gms_laws.proofs.Bounds.{IsPlaced}
 
 -- What is known of the program of a solve.
 pub record IsProgram (objective : Key) (maximize : Bool) (lp : Lp Number) : Type 0 where

@@ -120,6 +120,18 @@ row_bounds sense.L sum right h = (tt, h)
 row_bounds sense.G sum right h = (h, tt)
 row_bounds sense.N sum right h = (tt, tt)
 
+-- The objective is a column, and each entry names one.
+pub record IsPlaced {F : Type 0} (lp : Lp F) : Type 0 where
+  pub objective : lp.objective < length lp.columns
+  pub entries : All (λ (row : Row F). All (λ (e : ℕ × F). e.0 < length lp.columns) row.entries) lp.rows
+
+-- a well-formed program is placed so
+formed-placed : {F : Type 0} (value : F → Number) (lp : Lp F) → IsWellFormed value lp → IsPlaced lp
+formed-placed {F} value lp formed = record {
+  objective = formed.objective;
+  entries = All-weaker (λ (row : Row F). AreRowEntries value (length lp.columns) row.entries) (λ (row : Row F). All (λ (e : ℕ × F). e.0 < length lp.columns) row.entries) (λ row entries. entries.there) lp.rows formed.entries;
+}
+
 module _ {F : Type 0} (value : F → Number) (lp : Lp F) (duals x : List Number) where
   -- what the rows give at the point, each times its dual
   pub rows_at : Number
@@ -153,53 +165,67 @@ module _ {F : Type 0} (value : F → Number) (lp : Lp F) (duals x : List Number)
       put_back : (a b : Number) → a +ℚ (b -ℚ a) ≡ b
       put_back a b = simp ring_ℚ
 
-  -- each entry names a column that is there
-  entries_there : IsWellFormed value lp → All (λ (row : Row F). All (λ (e : ℕ × F). e.0 < length lp.columns) row.entries) lp.rows
-  entries_there formed = All-weaker (λ (row : Row F). AreRowEntries value (length lp.columns) row.entries) (λ (row : Row F). All (λ (e : ℕ × F). e.0 < length lp.columns) row.entries) (λ row entries. entries.there) lp.rows formed.entries
-
   -- the sum of the used lower bounds is at most the cost of a feasible point
-  pub low_at_most : (costs : ℕ → Number) (t : Number) → IsWellFormed value lp → Feasible value lp x → low value lp costs duals ≡ Some t → t ≤ℚ costs_at costs
+  low-placed : (costs : ℕ → Number) (t : Number) → IsPlaced lp → Feasible value lp x → low value lp costs duals ≡ Some t → t ≤ℚ costs_at costs
   unfolding rows_at
-  low_at_most costs t formed feasible e =
+  low-placed costs t placed feasible e =
       let parts = parts_of_both (rows_low value lp duals) (columns_low value lp costs duals) t e in
       let rows = total_at_most (λ (p : Row F × Number). used p.1 (row_lower p.0.sense (value p.0.right)) (row_upper p.0.sense (value p.0.right))) (λ (p : Row F × Number). p.1 *ℚ row_sum value p.0.entries x) (zip lp.rows duals) parts.0 parts.2
       (All-weaker (λ (p : Row F × Number). KeepsRow value p.0 x) (λ (p : Row F × Number). (u : Number) → used p.1 (row_lower p.0.sense (value p.0.right)) (row_upper p.0.sense (value p.0.right)) ≡ Some u → u ≤ℚ p.1 *ℚ row_sum value p.0.entries x) (λ p kept u is. let bounds = row_bounds p.0.sense (row_sum value p.0.entries x) (value p.0.right) kept in used_at_most p.1 (row_sum value p.0.entries x) u (row_lower p.0.sense (value p.0.right)) (row_upper p.0.sense (value p.0.right)) is bounds.0 bounds.1)
       (zip lp.rows duals) (All-zip (λ (row : Row F). KeepsRow value row x) lp.rows duals feasible.rows)) in
       let columns = total_at_most (λ (q : ℕ × Column F). used (reduced_cost value lp costs duals q.0) (bound_value value q.1.lower) (bound_value value q.1.upper)) (λ (q : ℕ × Column F). reduced_cost value lp costs duals q.0 *ℚ value_of_column x q.0) (enumerate_from 0 lp.columns) parts.1 parts.3
       (All-weaker (λ (q : ℕ × Column F). KeepsBounds value q.1 (value_of_column x q.0)) (λ (q : ℕ × Column F). (u : Number) → used (reduced_cost value lp costs duals q.0) (bound_value value q.1.lower) (bound_value value q.1.upper) ≡ Some u → u ≤ℚ reduced_cost value lp costs duals q.0 *ℚ value_of_column x q.0) (λ q kept u is. used_at_most (reduced_cost value lp costs duals q.0) (value_of_column x q.0) u (bound_value value q.1.lower) (bound_value value q.1.upper) is kept.0 kept.1) (enumerate_from 0 lp.columns) feasible.bounds) in
-      subst (λ u. u ≤ℚ costs_at costs) parts.4 (subst (λ u. parts.0 +ℚ parts.1 ≤ℚ u) (costs_split costs (entries_there formed)) (Order.+ℚ-≤ℚ parts.0 rows_at parts.1 _ rows columns))
+      subst (λ u. u ≤ℚ costs_at costs) parts.4 (subst (λ u. parts.0 +ℚ parts.1 ≤ℚ u) (costs_split costs placed.entries) (Order.+ℚ-≤ℚ parts.0 rows_at parts.1 _ rows columns))
 
   -- and with the bounds exchanged to no less
-  pub high_at_least : (costs : ℕ → Number) (t : Number) → IsWellFormed value lp → Feasible value lp x → high value lp costs duals ≡ Some t → costs_at costs ≤ℚ t
+  high-placed : (costs : ℕ → Number) (t : Number) → IsPlaced lp → Feasible value lp x → high value lp costs duals ≡ Some t → costs_at costs ≤ℚ t
   unfolding rows_at
-  high_at_least costs t formed feasible e =
+  high-placed costs t placed feasible e =
       let parts = parts_of_both (rows_high value lp duals) (columns_high value lp costs duals) t e in
       let rows = total_at_least (λ (p : Row F × Number). used p.1 (row_upper p.0.sense (value p.0.right)) (row_lower p.0.sense (value p.0.right))) (λ (p : Row F × Number). p.1 *ℚ row_sum value p.0.entries x) (zip lp.rows duals) parts.0 parts.2
       (All-weaker (λ (p : Row F × Number). KeepsRow value p.0 x) (λ (p : Row F × Number). (u : Number) → used p.1 (row_upper p.0.sense (value p.0.right)) (row_lower p.0.sense (value p.0.right)) ≡ Some u → p.1 *ℚ row_sum value p.0.entries x ≤ℚ u) (λ p kept u is. let bounds = row_bounds p.0.sense (row_sum value p.0.entries x) (value p.0.right) kept in used_at_least p.1 (row_sum value p.0.entries x) u (row_lower p.0.sense (value p.0.right)) (row_upper p.0.sense (value p.0.right)) is bounds.0 bounds.1)
       (zip lp.rows duals) (All-zip (λ (row : Row F). KeepsRow value row x) lp.rows duals feasible.rows)) in
       let columns = total_at_least (λ (q : ℕ × Column F). used (reduced_cost value lp costs duals q.0) (bound_value value q.1.upper) (bound_value value q.1.lower)) (λ (q : ℕ × Column F). reduced_cost value lp costs duals q.0 *ℚ value_of_column x q.0) (enumerate_from 0 lp.columns) parts.1 parts.3
       (All-weaker (λ (q : ℕ × Column F). KeepsBounds value q.1 (value_of_column x q.0)) (λ (q : ℕ × Column F). (u : Number) → used (reduced_cost value lp costs duals q.0) (bound_value value q.1.upper) (bound_value value q.1.lower) ≡ Some u → reduced_cost value lp costs duals q.0 *ℚ value_of_column x q.0 ≤ℚ u) (λ q kept u is. used_at_least (reduced_cost value lp costs duals q.0) (value_of_column x q.0) u (bound_value value q.1.lower) (bound_value value q.1.upper) is kept.0 kept.1) (enumerate_from 0 lp.columns) feasible.bounds) in
-      subst (λ u. costs_at costs ≤ℚ u) parts.4 (subst (λ u. u ≤ℚ parts.0 +ℚ parts.1) (costs_split costs (entries_there formed)) (Order.+ℚ-≤ℚ rows_at parts.0 _ parts.1 rows columns))
+      subst (λ u. costs_at costs ≤ℚ u) parts.4 (subst (λ u. u ≤ℚ parts.0 +ℚ parts.1) (costs_split costs placed.entries) (Order.+ℚ-≤ℚ rows_at parts.0 _ parts.1 rows columns))
 
   -- the costs that are 1 at the objective's column and 0 elsewhere have its value
-  objective_at : IsWellFormed value lp → costs_at (objective_costs lp) ≡ value_of_column x lp.objective
-  objective_at formed = unit_sum lp.objective (whole (pos 1)) (value_of_column x) 0 lp.columns (omega arith) (omega (arith, formed.objective)) ∙ one-*ℚ (value_of_column x lp.objective)
+  objective_at : IsPlaced lp → costs_at (objective_costs lp) ≡ value_of_column x lp.objective
+  objective_at placed = unit_sum lp.objective (whole (pos 1)) (value_of_column x) 0 lp.columns (omega arith) (omega (arith, placed.objective)) ∙ one-*ℚ (value_of_column x lp.objective)
 
   -- the costs that are 0 everywhere have the value 0
   no_costs_at : costs_at no_costs ≡ whole (pos 0)
   no_costs_at = sum_by_same (λ (q : ℕ × Column F). whole (pos 0) *ℚ value_of_column x q.0) (λ (q : ℕ × Column F). whole (pos 0)) (enumerate_from 0 lp.columns) (λ q. zero-*ℚ (value_of_column x q.0)) ∙ sum_by_ℚ-zero (enumerate_from 0 lp.columns)
 
-  pub bound_below : (t : Number) → IsWellFormed value lp → Feasible value lp x → lp.maximize ≡ false → dual_bound value lp duals ≡ Some t → t ≤ℚ value_of_column x lp.objective
-  bound_below t formed feasible least e =
+  -- no feasible point is better than the bound that duals give
+  pub below-placed : (t : Number) → IsPlaced lp → Feasible value lp x → lp.maximize ≡ false → dual_bound value lp duals ≡ Some t → t ≤ℚ value_of_column x lp.objective
+  below-placed t placed feasible least e =
       let is : low value lp (objective_costs lp) duals ≡ Some t = subst (λ b. cond b (high value lp (objective_costs lp) duals) (low value lp (objective_costs lp) duals) ≡ Some t) least e in
-      subst (λ u. t ≤ℚ u) (objective_at formed) (low_at_most (objective_costs lp) t formed feasible is)
+      subst (λ u. t ≤ℚ u) (objective_at placed) (low-placed (objective_costs lp) t placed feasible is)
 
-  pub bound_above : (t : Number) → IsWellFormed value lp → Feasible value lp x → lp.maximize ≡ true → dual_bound value lp duals ≡ Some t → value_of_column x lp.objective ≤ℚ t
-  bound_above t formed feasible greatest e =
+  pub above-placed : (t : Number) → IsPlaced lp → Feasible value lp x → lp.maximize ≡ true → dual_bound value lp duals ≡ Some t → value_of_column x lp.objective ≤ℚ t
+  above-placed t placed feasible greatest e =
       let is : high value lp (objective_costs lp) duals ≡ Some t = subst (λ b. cond b (high value lp (objective_costs lp) duals) (low value lp (objective_costs lp) duals) ≡ Some t) greatest e in
-      subst (λ u. u ≤ℚ t) (objective_at formed) (high_at_least (objective_costs lp) t formed feasible is)
+      subst (λ u. u ≤ℚ t) (objective_at placed) (high-placed (objective_costs lp) t placed feasible is)
 
   -- if the lower bound of a combination of rows and bounds is above 0, no point is feasible
+  pub none-placed : (t : Number) → IsPlaced lp → low value lp no_costs duals ≡ Some t → whole (pos 0) <ℚ t → ¬ (Feasible value lp x)
+  none-placed t placed e above feasible =
+      Order.<ℚ_irrefl (whole (pos 0)) (Order.<ℚ-≤ℚ_trans (whole (pos 0)) t (whole (pos 0)) above (subst (λ u. t ≤ℚ u) no_costs_at (low-placed no_costs t placed feasible e)))
+
+  -- ---- well-formed programs
+
+  pub low_at_most : (costs : ℕ → Number) (t : Number) → IsWellFormed value lp → Feasible value lp x → low value lp costs duals ≡ Some t → t ≤ℚ costs_at costs
+  low_at_most costs t formed = low-placed costs t (formed-placed value lp formed)
+
+  pub high_at_least : (costs : ℕ → Number) (t : Number) → IsWellFormed value lp → Feasible value lp x → high value lp costs duals ≡ Some t → costs_at costs ≤ℚ t
+  high_at_least costs t formed = high-placed costs t (formed-placed value lp formed)
+
+  pub bound_below : (t : Number) → IsWellFormed value lp → Feasible value lp x → lp.maximize ≡ false → dual_bound value lp duals ≡ Some t → t ≤ℚ value_of_column x lp.objective
+  bound_below t formed = below-placed t (formed-placed value lp formed)
+
+  pub bound_above : (t : Number) → IsWellFormed value lp → Feasible value lp x → lp.maximize ≡ true → dual_bound value lp duals ≡ Some t → value_of_column x lp.objective ≤ℚ t
+  bound_above t formed = above-placed t (formed-placed value lp formed)
+
   pub none_feasible : (t : Number) → IsWellFormed value lp → low value lp no_costs duals ≡ Some t → whole (pos 0) <ℚ t → ¬ (Feasible value lp x)
-  none_feasible t formed e above feasible =
-      Order.<ℚ_irrefl (whole (pos 0)) (Order.<ℚ-≤ℚ_trans (whole (pos 0)) t (whole (pos 0)) above (subst (λ u. t ≤ℚ u) no_costs_at (low_at_most no_costs t formed feasible e)))
+  none_feasible t formed = none-placed t (formed-placed value lp formed)

@@ -16,7 +16,6 @@ use Rattle.lp_core.specs.declared.program.Sense.TheVariants as sense
 use Rattle.lp_core.specs.declared.program.Lp.{Lp}
 use Rattle.lp_core.specs.Sums.{value_of_column, row_sum}
 use Rattle.lp_core.specs.Feasible.{KeepsLower, KeepsUpper, KeepsSense, KeepsBounds, bound_value, Feasible}
-use Rattle.lp_core.specs.WellFormed.{IsWellFormed}
 use Rattle.lp_core.specs.Proofs.{KeepsSenseAlong, KeepsLowerAlong, KeepsUpperAlong, ImprovesObjective, IsRay, Crosses, ProvesCrossed, further}
 use Rattle.lp_core.proofs.RowSums.{sum_by_same}
 
@@ -73,8 +72,8 @@ module _ (t : Number) (above : whole (pos 0) ≤ℚ t) where
 
 module _ {F : Type 0} (value : F → Number) (lp : Lp F) (levels ray : List Number) (t : Number) where
   -- each multiple of the ray leads from a feasible point to one
-  pub further_feasible : IsWellFormed value lp → Feasible value lp levels → IsRay value lp ray → whole (pos 0) ≤ℚ t → Feasible value lp (further levels t ray)
-  further_feasible formed feasible along above =
+  pub further_feasible : Feasible value lp levels → IsRay value lp ray → whole (pos 0) ≤ℚ t → Feasible value lp (further levels t ray)
+  further_feasible feasible along above =
       let same : length ray ≡ length levels = along.sized ∙ sym feasible.sized in
       record {
         sized = length-further levels ray t same ∙ feasible.sized;
