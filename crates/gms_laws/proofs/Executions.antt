@@ -39,12 +39,13 @@ use Rattle.gms_exec.specs.Assignment.{after_assignment, given_by, target_of}
 use Rattle.gms_exec.specs.Given.{Given, AllGiven, after_given}
 use Rattle.gms_exec.specs.Once.{IsOnce}
 use Rattle.gms_exec.specs.Run.{Course, OfAct, OfStatement, act_step, in_state, of_statement, statement_step, with_evaluated}
+use Rattle.gms_run_laws.proofs.DeclaredKinds.{kind-now}
 use Rattle.gms_run_laws.proofs.Lasting.{IsLasting, start-lasts}
+use Rattle.gms_run_laws.proofs.OnceInRuns.{index-simple, run-once}
 use Rattle.gms_run_laws.proofs.Starting.{begins-lasting}
 use Rattle.gms_restart.proofs.Assigned.{assigned-long}
 use Rattle.gms_laws.specs.Assignments.{Execution, IsCompleted, left_indices, left_sets, element_binding}
 use Rattle.gms_laws.proofs.AssignedEntries.{GivenBy}
-use Rattle.gms_laws.proofs.InRuns.{index-simple, kind-now, run-once}
 
 -- ---- names
 

@@ -1,21 +1,18 @@
 -- A table has one list of entries or one first fault.
-use Rattle.std.proofs.Common.{◌≡◌, ◌==◌, if◌then◌else◌, ℕ, List, [], ◌∷◌, map, refl, sym, ap, ap₂, ◌∙◌, subst, arith, inl, inr}
+use Rattle.std.proofs.Common.{◌≡◌, ℕ, List, [], ◌∷◌, map, refl, sym, ap, ◌∙◌, subst, inl, inr}
 use Rattle.std.specs.Prelude.{string_bytes}
 use Rattle.gq_number.specs.Number.{Number}
 use Rattle.gms_table.specs.declared.entry.Entry.{Entry}
 use Rattle.gms_table.specs.declared.entry.TableLine.{TableLine}
 use Rattle.gms_table.specs.declared.fault.TableFault.{TableFault}
-use Rattle.gms_table.specs.declared.fault.TableError.{TableError}
-use Rattle.gms_table.specs.declared.fault.TableError.TheVariants.{NoColumn, TwoColumns, RepeatedEntry, BadRow, NoHeading, Labels}
-use Rattle.gms_table.specs.Faults.{table_error_code}
-use Rattle.gms_labels.specs.declared.place.Place.{Place}
+use Rattle.gms_table.specs.declared.fault.TableError.TheVariants.{NoHeading}
 use Rattle.gms_table.specs.Words.{words_of}
 use Rattle.gms_table.specs.WordLabels.{all_entered}
-use Rattle.gms_table.specs.TableEntries.{TablePart, name, cell, nowhere, table_parts, place_of_part, label_texts, AreEntries, ArePartsFaultless, IsFirstPartFault, IsTable, IsTableFault, IsPartFault}
-use Rattle.gms_grammar.proofs.Orders.{Order, at_once, earlier, later, order, some_there}
+use Rattle.gms_table.specs.TableEntries.{TablePart, name, cell, nowhere, table_parts, label_texts, AreEntries, ArePartsFaultless, IsTable, IsTableFault}
+use Rattle.gms_grammar.proofs.Orders.{some_there}
 use Rattle.gms_parse.specs.Tables.{entries_in}
 use Rattle.gms_parse.proofs.Ranges.{entered_there}
-use Rattle.gms_parse.proofs.TableFaults.{occurs_not}
+use Rattle.gms_parse.proofs.TableFaults.{occurs_not, one_first}
 use Rattle.gms_parse.proofs.TableItems.{entries_only}
 use Rattle.gms_parse.proofs.TableSound.{sound_table, placed_table, entries_there}
 use Rattle.gms_laws.specs.Tables.{meant_entry, HasEntries}
@@ -38,35 +35,6 @@ same_entries : (entries : List (Entry Number)) → map (meant_entry (λ x. x)) e
 same_entries [] = refl
 same_entries (entry ∷ entries) = ap (λ (rest : List (Entry Number)). entry ∷ rest) (same_entries entries)
 
--- ---- one first fault
-
--- the error whose number this is
-abbrev with_code : ℕ → TableError
-with_code n =
-    if n == 21 then NoColumn else (if n == 22 then TwoColumns else (if n == 23 then RepeatedEntry else (if n == 24 then BadRow else (if n == 25 then NoHeading else Labels))))
-
-with_own_code : (error : TableError) → with_code (table_error_code error) ≡ error
-with_own_code NoColumn = refl
-with_own_code TwoColumns = refl
-with_own_code RepeatedEntry = refl
-with_own_code BadRow = refl
-with_own_code NoHeading = refl
-with_own_code Labels = refl
-
-same_least : (limit : ℕ) (labels : List (List ℕ)) (parts : List TablePart) (one other : TableFault) → IsFirstPartFault limit labels parts one → IsFirstPartFault limit labels parts other → one ≡ other
-same_least limit labels parts one other f g = by_order (order f.before f.part f.following g.before g.part g.following (sym f.parts_are ∙ g.parts_are))
-  where
-    by_order : Order f.before f.part f.following g.before g.part g.following → one ≡ other
-    by_order (earlier w e k) =
-        absurd (occurs_not limit labels [] f.before f.part w one.error (subst (λ (ps : List TablePart). ArePartsFaultless limit labels [] ps) e g.sound) f.occurs)
-    by_order (later w e k) =
-        absurd (occurs_not limit labels [] g.before g.part w other.error (subst (λ (ps : List TablePart). ArePartsFaultless limit labels [] ps) e f.sound) g.occurs)
-    by_order (at_once prefix part rest) =
-        let less = f.least other.error (subst (λ (ps : List TablePart). IsPartFault limit labels ps f.part other.error) (sym prefix) (subst (λ (p : TablePart). IsPartFault limit labels g.before p other.error) (sym part) g.occurs)) in
-        let more = g.least one.error (subst (λ (ps : List TablePart). IsPartFault limit labels ps g.part one.error) prefix (subst (λ (p : TablePart). IsPartFault limit labels f.before p one.error) part f.occurs)) in
-        let codes : table_error_code one.error ≡ table_error_code other.error = omega (arith, less, more) in
-        ap₂ (λ (e : TableError) (p : Place). record { error = e; at = p }) (sym (with_own_code one.error) ∙ ap with_code codes ∙ with_own_code other.error) (f.at ∙ ap place_of_part part ∙ sym g.at)
-
 -- ---- one and not both
 
 module _ (limit : ℕ) (lines : List TableLine) (before : List (List ℕ)) where
@@ -83,7 +51,7 @@ module _ (limit : ℕ) (lines : List TableLine) (before : List (List ℕ)) where
   one_fault one other (inl a) (inl b) = a.1 ∙ sym b.1
   one_fault one other (inl a) (inr b) = absurd (some_there b.before b.part b.following (sym a.0 ∙ b.parts_are))
   one_fault one other (inr a) (inl b) = absurd (some_there a.before a.part a.following (sym b.0 ∙ a.parts_are))
-  one_fault one other (inr a) (inr b) = same_least limit before (table_parts lines) one other a b
+  one_fault one other (inr a) (inr b) = one_first limit before (table_parts lines) one other a b
 
   pub not_both : (after : List (List ℕ)) (entries : List (Entry Number)) (fault : TableFault) → HasEntries limit lines before after entries → IsTableFault limit lines before fault → ⊥
   not_both after entries fault t (inl none) = t.headed none.0

@@ -1,5 +1,5 @@
 -- The tokens of a source, computed piece by piece.
-use Rattle.std.proofs.Common.{◌≡◌, ℕ, zero, suc, Bool, true, false, List, [], ◌∷◌, ◌++◌, length, take, drop, Option, Some, None, Ok, Err, refl, ap, subst}
+use Rattle.std.proofs.Common.{◌≡◌, ℕ, zero, suc, Bool, true, false, List, [], ◌∷◌, ◌++◌, take, drop, Option, Some, None, Ok, Err, refl, ap, subst}
 use Rattle.std.specs.Prelude.{is_none}
 use Rattle.gms_grammar.specs.declared.fault.ByteFault.{ByteFault}
 use Rattle.gms_grammar.specs.Lines.{lines, code_text}

@@ -33,7 +33,7 @@ module _ (limit : ℕ) (labels : List (List ℕ)) where
       occurs_not (done ++ p ∷ []) before part following error sound.1 (subst (λ (ps : List TablePart). IsPartFault limit labels ps part error) (sym (append_assoc done (p ∷ []) before)) h)
 
   -- two first faults of a table are one
-  one_first : (parts : List TablePart) (one other : TableFault) → IsFirstPartFault limit labels parts one → IsFirstPartFault limit labels parts other → one ≡ other
+  pub one_first : (parts : List TablePart) (one other : TableFault) → IsFirstPartFault limit labels parts one → IsFirstPartFault limit labels parts other → one ≡ other
   one_first parts one other f g = by (order f.before f.part f.following g.before g.part g.following (sym f.parts_are ∙ g.parts_are))
     where
       by : Order f.before f.part f.following g.before g.part g.following → one ≡ other

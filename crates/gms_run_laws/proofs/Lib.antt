@@ -12,16 +12,16 @@ pub mod Later
 mod Labelled
 pub mod Persisting
 pub mod Reaching
-mod OnceInRuns
+pub mod OnceInRuns
 pub mod Tidying
 pub mod LastStates
 pub mod TidyLoaded
 pub mod Lasting
 mod MarkedTrees
 mod LinearSides
-mod DeclaredKinds
+pub mod DeclaredKinds
 pub mod Starting
-mod EachDefinition
+pub mod EachDefinition
 pub mod LinearDefinitions
 pub mod DeclaredStates
 pub mod FewPositions
