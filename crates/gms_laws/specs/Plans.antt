@@ -1,7 +1,7 @@
 -- What a planner asks with a solve, and what an answer states (GAMS User's Guide, "Equations",
--- "Model and Solve Statements"; Chvatal, "Linear Programming", chapters 1, 5 and 9). Plans,
--- equations and bounds, in the values that the language gives to expressions: no rows, matrices,
--- duals or rays.
+-- "Model and Solve Statements"; Chvatal, "Linear Programming", chapters 1, 5 and 9). What is stated
+-- speaks of plans, equations and bounds, in the values that the language gives to expressions, and
+-- not of rows, matrices, duals or rays.
 use Rattle.std.specs.Prelude.{◌≡◌, ℕ, Bool, true, false, List, [], map, Ok}
 use Rattle.std.specs.List.{All}
 use Rattle.gq_number.specs.Number.{Number}
@@ -51,11 +51,13 @@ IsBetter false outcome other = outcome <ℚ other
 module _ {F : Type 0} (number_of : F → Number) (limit : ℕ) (question : Question F) where
   -- A plan satisfies an equation: at each tuple of labels of the equation's sets for which its
   -- condition holds, both sides are numbers, and the left one compares with the right one as `=e=`,
-  -- `=l=` or `=g=` says (`=n=`: any two numbers do). Variables are read in the plan; data, and
-  -- attributes such as `.l`, in the state of the solve.
+  -- `=l=` or `=g=` says (`=n=`: any two numbers do). A condition whose computation ends in a fault
+  -- does not hold. Variables are read in the plan; data, and attributes such as `.l`, in the state
+  -- of the solve. A part without variables is data, computed within `limit`; sums and products with
+  -- variables have no limit.
   abbrev pub Satisfies : Plan → Definition F → Type 0
-  Satisfies plan equation = (element : List ℕ) → has (elements question.state (sets_of_definition equation)) element ≡ true →
-      holds_for number_of limit question.state (bound_to equation element) equation.condition ≡ Ok true → SidesCompare number_of limit question.state plan equation (bound_to equation element)
+  Satisfies plan equation = (tuple : List ℕ) → has (elements question.state (sets_of_definition equation)) tuple ≡ true →
+      holds_for number_of limit question.state (bound_to equation tuple) equation.condition ≡ Ok true → SidesCompare number_of limit question.state plan equation (bound_to equation tuple)
 
   -- A plan, which gives each element of a variable a number, is feasible: it satisfies each
   -- equation of the model, and each element in `listed` (the elements in rows of the model, and the
@@ -83,11 +85,12 @@ module _ {F : Type 0} (number_of : F → Number) (limit : ℕ) (question : Quest
     pub some : (plan : Plan) × (map plan question.listed ≡ levels)
     pub each : (plan : Plan) → map plan question.listed ≡ levels → Holds plan
 
-  -- What an answer states of plans; its other fields (levels of rows, duals, a ray) are its
-  -- certificate. Optimal: its levels are optimal. Infeasible: no plan is feasible. Unbounded: its
-  -- levels are feasible, and for each number some feasible plan has a better objective. Interrupted
-  -- (at the limit of the number of pivots) in phase 2 of the simplex method: its levels are
-  -- feasible. Interrupted in phase 1, or Refused (a number was too large to compute with): nothing.
+  -- What an answer states of plans; its other fields (levels of rows, duals, reduced costs, a
+  -- column with crossed bounds, a ray) are its certificate. Optimal: its levels are optimal.
+  -- Infeasible: no plan is feasible. Unbounded: its levels are feasible, and for each number some
+  -- feasible plan has a better objective. Interrupted (at the limit of the number of pivots) in
+  -- phase 2 of the simplex method: its levels are feasible. Interrupted in phase 1, or Refused (a
+  -- number was too large to compute with): nothing.
   abbrev pub IsSo : End Number → Type 0
   IsSo (Optimal levels row_levels duals reduced) = AreLevels IsOptimal levels
   IsSo (Infeasible duals crossed) = (plan : Plan) → IsFeasible plan → ⊥

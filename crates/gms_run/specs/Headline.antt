@@ -31,7 +31,7 @@ use Rattle.gms_run.specs.Statuses.{IsFileOf, with_source_read, with_file}
 
 -- The run of a program: its statements in order, from the state that its declarations give. Each
 -- solve takes the next of the answers that the solvers gave. A `Solving` has the solvers before the
--- run and after it, with their names, and these answers.
+-- run and after it, with their names and pivot rules, and these answers.
 abbrev pub run_of : Program Frac → Solving → Course
 run_of program solving =
     run_from frac_value frac_limit (record { program = program; solvers = solving.before.names }) (loaded frac_value program) (numbers_of solving.answers) program.statements.items
@@ -56,9 +56,9 @@ pub record IsErrorListing (solvers : List (List ℕ)) (source text : List ℕ) :
 -- The source is a program without compilation errors. Its run takes all answers of `solving`. Each
 -- solve has an answer of the linear program that its model means at that moment, with the
 -- certificate that proves it (`answered`). What each answer says of plans, that is, of values for
--- the variables, is true (`says_so`). With Done every statement was executed, with Execution an
--- execution error stopped the run. `text`, the listing, echoes the source from line 1 and shows the
--- events of the run.
+-- the variables, is true (`says_so`; `IsSo` of `gms_laws/specs/Plans.antt` is what it says). With
+-- Done every statement was executed, with Execution an execution error stopped the run. `text`, the
+-- listing, echoes the source from line 1 and shows the events of the run.
 pub record IsRunListing (status : Status) (solving : Solving) (source text : List ℕ) : Type 0 where
   pub program : Program Frac
   pub is_program : IsProgram frac_limit source frac_value program
@@ -70,7 +70,7 @@ pub record IsRunListing (status : Status) (solving : Solving) (source text : Lis
   pub listing : text ≡ run_listing program.names program.labels frac_limit 1 source (numbers_of solving.answers) (all_events (run_of program solving)) (status_code status)
 
 -- the text is the listing of the source, for a run that ends with this status; with Compile nothing
--- was solved, and with the last three statuses there is no such text
+-- was solved, and with Usage, ReadFault and WriteFault there is no such text
 abbrev pub IsListingOf : Status → Solving → List ℕ → List ℕ → Type 0
 IsListingOf Done solving source text = IsRunListing Done solving source text
 IsListingOf Execution solving source text = IsRunListing Execution solving source text
@@ -80,8 +80,8 @@ IsListingOf Usage solving source text = ⊥
 IsListingOf ReadFault solving source text = ⊥
 IsListingOf WriteFault solving source text = ⊥
 
--- whether a run with this status surely writes the whole listing; after a write fault the output
--- has a prefix of it, or all of it
+-- whether a run with this status surely writes the whole listing; what the output has after a write
+-- fault, the clause `run` says
 abbrev pub HasListing : Status → Type 0
 HasListing Done = Unit {0}
 HasListing Compile = Unit {0}
@@ -92,8 +92,8 @@ HasListing WriteFault = ⊥
 
 -- ---- the headline
 
--- the request for a FILE alone, whose listing goes to the output of this name, without a save, and
--- without sensitivity ranges (the flag `--ranges`)
+-- the request for a FILE alone, without a save, and without sensitivity ranges (the flag
+-- `--ranges`); its listing goes to the output of this name, which `--out` may give
 abbrev pub file_alone : List ℕ → List ℕ → Asked
 file_alone file output = record { source = in_file file; output = output; save = None; ranges = false }
 
