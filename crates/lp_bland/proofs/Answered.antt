@@ -25,7 +25,7 @@ use Rattle.lp_std.proofs.Ends.{proved_at}
 use Rattle.lp_nocycle.proofs.SameForm.{bound_same, form_same, itself}
 use Rattle.lp_core.proofs.Rules.{improves_of, legal_of}
 use Rattle.lp_simplex.proofs.ProgramDictionaries.{first_occurs, occurs_last}
-use Rattle.lp_bland.proofs.Programs.{none_cross, well_formed_same}
+use Rattle.lp_width.proofs.Programs.{none_cross, well_formed_same}
 use Rattle.lp_bland.proofs.SameSteps.{standard_steps_same, steps_back_same}
 use Rattle.lp_bland.proofs.Widened.{told_same, read_of, crossed_so}
 

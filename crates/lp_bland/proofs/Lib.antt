@@ -1,8 +1,6 @@
 pub mod Naturality
 pub mod SameSteps
 pub mod Eased
-pub mod Programs
 pub mod Widened
 pub mod Few
 pub mod Answered
-pub mod Narrowed

@@ -27,7 +27,7 @@ use Rattle.lp_bland.proofs.SameSteps.{standard_steps_same, steps_back_same}
 use Rattle.lp_bland.proofs.Eased.{ratio_eased, exchange_eased, standard_eased, steps_back_eased}
 use Rattle.lp_core.proofs.Rules.{improves_of, legal_of}
 use Rattle.lp_simplex.proofs.ProgramDictionaries.{first_occurs, occurs_last}
-use Rattle.lp_bland.proofs.Programs.{none_cross, crossed_same}
+use Rattle.lp_width.proofs.Programs.{none_cross, crossed_same}
 
 -- pivots that fit under the lesser limit fit under the greater
 pub fits_eased : (low high : ℕ) → low ≤ high → (Allowed : List Pivot → Dictionary → Pivot → ℕ → Type 0) (n : ℕ) (done : List Pivot) (d : Dictionary) (pivots : List Pivot) (last : Dictionary) (way : Leads Allowed done d pivots last) → PivotsFit Allowed low n done d pivots last way → PivotsFit Allowed high n done d pivots last way

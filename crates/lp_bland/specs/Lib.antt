@@ -1,4 +1,3 @@
 pub mod Ends
 pub mod Least
 pub mod Name
-pub mod InnerNarrowing

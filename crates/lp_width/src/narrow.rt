@@ -5,10 +5,10 @@ ghost use Rattle.gq_field.specs.Values.{half_value};
 ghost use Rattle.gq_frac.specs.Frac.{frac_value};
 ghost use Rattle.gq_field.specs.Fits.{fits};
 ghost use Rattle.lp_core.specs.Feasible.{bound_value};
-ghost use Rattle.lp_bland.specs.declared.narrow.Wide.TheVariants as kinds;
+ghost use Rattle.lp_width.specs.declared.narrow.Wide.TheVariants as kinds;
 ghost use Rattle.lp_core.specs.WellFormed.{IsWellFormed};
 ghost use Rattle.lp_core.specs.Numbers.{entries_numbers, column_numbers, row_numbers, lp_numbers, ColumnIsWithin, RowIsWithin, IsWithin};
-ghost use Rattle.lp_bland.specs.InnerNarrowing.{Narrows};
+ghost use Rattle.lp_width.specs.InnerNarrowing.{Narrows};
 
 use gq_field::Half;
 use gq_frac::{Frac, narrow};
@@ -66,11 +66,10 @@ fn narrow_column(alloc: Global, column: &Column<Frac>) -> Result<Column<Half>, W
     ensures { Narrows (λ made. column_numbers half_value made ≡ column_numbers frac_value column.now)
         (ColumnIsWithin (2 ^ 63 - 1) (column_numbers frac_value column.now)) result }
 {
-    Ok(Column {
-        lower: narrow_bound(column.lower)?,
-        upper: narrow_bound(column.upper)?,
-        key: column.key.copy(alloc)?,
-    })
+    let lower = narrow_bound(column.lower)?;
+    let upper = narrow_bound(column.upper)?;
+    let key = column.key.copy(alloc)?;
+    Ok(Column { lower, upper, key })
 }
 
 /// The narrowed columns.
@@ -103,9 +102,10 @@ fn narrow_row(alloc: Global, row: &Row<Frac>) -> Result<Row<Half>, Wide>
         (RowIsWithin (2 ^ 63 - 1) (row_numbers frac_value row.now)) result }
 {
     let right = narrow_number(row.right)?;
+    let key = row.key.copy(alloc)?;
     let entries = narrow_entries(alloc, row.entries.as_slice())?;
     Ok(Row {
-        key: row.key.copy(alloc)?,
+        key,
         sense: row.sense,
         right,
         entries: Sequence::new(entries),

@@ -6,8 +6,8 @@ use Rattle.gq_field.specs.Values.{half_value}
 use Rattle.gq_frac.specs.declared.frac.Frac.{Frac}
 use Rattle.gq_frac.specs.Frac.{frac_value}
 use Rattle.lp_core.specs.Numbers.{entries_numbers, row_numbers, RowIsWithin}
-use Rattle.lp_bland.proofs.Narrowed.{narrows_whole}
-use Rattle.lp_bland.proofs.narrow.narrow_row.Goals as goal
+use Rattle.lp_width.proofs.Narrowed.{narrows_whole}
+use Rattle.lp_width.proofs.narrow.narrow_row.Goals as goal
 
 pub returns-in_err-entries : goal.returns-in_err-entries
 returns-in_err-entries c =

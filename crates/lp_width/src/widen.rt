@@ -30,34 +30,51 @@ fn widen_end(alloc: Global, end: &End<Half>) -> Result<End<Frac>, AllocError>
             row_levels,
             duals,
             reduced,
-        } => Ok(End::Optimal {
-            levels: widen_all(alloc, levels)?,
-            row_levels: widen_all(alloc, row_levels)?,
-            duals: widen_all(alloc, duals)?,
-            reduced: widen_all(alloc, reduced)?,
-        }),
-        End::Infeasible { duals, crossed } => Ok(End::Infeasible {
-            duals: widen_all(alloc, duals)?,
-            crossed: *crossed,
-        }),
+        } => {
+            let levels = widen_all(alloc, levels)?;
+            let row_levels = widen_all(alloc, row_levels)?;
+            let duals = widen_all(alloc, duals)?;
+            let reduced = widen_all(alloc, reduced)?;
+            Ok(End::Optimal {
+                levels,
+                row_levels,
+                duals,
+                reduced,
+            })
+        }
+        End::Infeasible { duals, crossed } => {
+            let duals = widen_all(alloc, duals)?;
+            let crossed = *crossed;
+            Ok(End::Infeasible { duals, crossed })
+        }
         End::Unbounded {
             levels,
             row_levels,
             ray,
-        } => Ok(End::Unbounded {
-            levels: widen_all(alloc, levels)?,
-            row_levels: widen_all(alloc, row_levels)?,
-            ray: widen_all(alloc, ray)?,
-        }),
+        } => {
+            let levels = widen_all(alloc, levels)?;
+            let row_levels = widen_all(alloc, row_levels)?;
+            let ray = widen_all(alloc, ray)?;
+            Ok(End::Unbounded {
+                levels,
+                row_levels,
+                ray,
+            })
+        }
         End::Interrupted {
             phase,
             levels,
             row_levels,
-        } => Ok(End::Interrupted {
-            phase: *phase,
-            levels: widen_all(alloc, levels)?,
-            row_levels: widen_all(alloc, row_levels)?,
-        }),
+        } => {
+            let phase = *phase;
+            let levels = widen_all(alloc, levels)?;
+            let row_levels = widen_all(alloc, row_levels)?;
+            Ok(End::Interrupted {
+                phase,
+                levels,
+                row_levels,
+            })
+        }
         End::Refused { step } => Ok(End::Refused { step: *step }),
     }
 }

@@ -3,7 +3,7 @@ use Rattle.std.specs.List.{All}
 use Rattle.gq_field.specs.Values.{half_value}
 use Rattle.gq_frac.specs.Frac.{frac_value}
 use Rattle.lp_core.specs.Numbers.{row_numbers, RowIsWithin}
-use Rattle.lp_bland.proofs.narrow.narrow_rows.Given as goal
+use Rattle.lp_width.proofs.narrow.narrow_rows.Given as goal
 
 abbrev pub invariant-loop-row : goal.invariant-loop-row
 invariant-loop-row l =

@@ -3,8 +3,8 @@ use Rattle.std.specs.List.{All}
 use Rattle.gq_field.specs.Values.{half_value}
 use Rattle.gq_frac.specs.Frac.{frac_value}
 use Rattle.lp_core.specs.Numbers.{column_numbers, ColumnIsWithin}
-use Rattle.lp_bland.proofs.Narrowed.{narrows_whole, all_here, within_more, same_more}
-use Rattle.lp_bland.proofs.narrow.narrow_columns.Goals as goal
+use Rattle.lp_width.proofs.Narrowed.{narrows_whole, all_here, within_more, same_more}
+use Rattle.lp_width.proofs.narrow.narrow_columns.Goals as goal
 
 pub returns-in_err-narrow_column : goal.returns-in_err-narrow_column
 returns-in_err-narrow_column c =

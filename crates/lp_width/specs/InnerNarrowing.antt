@@ -1,7 +1,7 @@
 -- What the functions that narrow 127 bits to 63 promise each other.
 use Rattle.std.specs.Prelude.{Result, Ok, Err}
-use Rattle.lp_bland.specs.declared.narrow.Wide.{Wide}
-use Rattle.lp_bland.specs.declared.narrow.Wide.TheVariants as wide
+use Rattle.lp_width.specs.declared.narrow.Wide.{Wide}
+use Rattle.lp_width.specs.declared.narrow.Wide.TheVariants as wide
 
 -- why something was not narrowed: its numbers exceed the limit, or it was out of memory
 abbrev pub IsWide : Type 0 → Wide → Type 0

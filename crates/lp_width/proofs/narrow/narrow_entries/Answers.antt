@@ -7,8 +7,8 @@ use Rattle.gq_field.specs.declared.half.Half.{Half}
 use Rattle.gq_frac.specs.declared.frac.Frac.{Frac}
 use Rattle.gq_frac.specs.Frac.{frac_value}
 use Rattle.lp_core.specs.Numbers.{entries_numbers}
-use Rattle.lp_bland.proofs.Narrowed.{narrows_whole, all_here, within_more, same_more}
-use Rattle.lp_bland.proofs.narrow.narrow_entries.Goals as goal
+use Rattle.lp_width.proofs.Narrowed.{narrows_whole, all_here, within_more, same_more}
+use Rattle.lp_width.proofs.narrow.narrow_entries.Goals as goal
 
 pub returns-in_err-narrow_number : goal.returns-in_err-narrow_number
 returns-in_err-narrow_number c =

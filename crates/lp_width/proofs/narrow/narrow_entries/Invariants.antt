@@ -4,7 +4,7 @@ use Rattle.gq_field.specs.Values.{half_value}
 use Rattle.gq_field.specs.Fits.{fits}
 use Rattle.gq_frac.specs.Frac.{frac_value}
 use Rattle.lp_core.specs.Numbers.{entries_numbers}
-use Rattle.lp_bland.proofs.narrow.narrow_entries.Given as goal
+use Rattle.lp_width.proofs.narrow.narrow_entries.Given as goal
 
 abbrev pub invariant-loop-column : goal.invariant-loop-column
 invariant-loop-column l =

@@ -3,7 +3,7 @@ use Rattle.std.specs.List.{All}
 use Rattle.gq_field.specs.Values.{half_value}
 use Rattle.gq_frac.specs.Frac.{frac_value}
 use Rattle.lp_core.specs.Numbers.{column_numbers, ColumnIsWithin}
-use Rattle.lp_bland.proofs.narrow.narrow_columns.Given as goal
+use Rattle.lp_width.proofs.narrow.narrow_columns.Given as goal
 
 abbrev pub invariant-loop-column : goal.invariant-loop-column
 invariant-loop-column l =

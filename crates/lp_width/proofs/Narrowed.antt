@@ -4,9 +4,9 @@ use Rattle.std.specs.Prelude.{slice_index_or, IsErrAnd}
 use Rattle.std.specs.List.{All}
 use Rattle.std.proofs.lemmas.List.{length-map, get_or-map, map-append, take_more}
 use Rattle.std.proofs.lemmas.List.Elements.{All-nil, All-cons, All-append}
-use Rattle.lp_bland.specs.declared.narrow.Wide.{Wide}
-use Rattle.lp_bland.specs.declared.narrow.Wide.TheVariants as wide
-use Rattle.lp_bland.specs.InnerNarrowing.{IsWide, Narrows}
+use Rattle.lp_width.specs.declared.narrow.Wide.{Wide}
+use Rattle.lp_width.specs.declared.narrow.Wide.TheVariants as wide
+use Rattle.lp_width.specs.InnerNarrowing.{IsWide, Narrows}
 
 -- why a part is not made narrow is why the whole is not
 wide_whole : (Within Whole : Type 0) (w : Wide) → (Whole → Within) → IsWide Within w → IsWide Whole w
