@@ -54,6 +54,29 @@ module _ (w : Width) (a n : ℤ) (a_fits : FitsSigned w a) (n_fits : FitsSigned 
     pub product_again : stored w (stored w a *ℤ stored w n) ≡ a *ℤ n
     product_again = to_z-of_z w (stored w a *ℤ stored w n) product_fits ∙ stored_product
 
+-- the difference of stored numbers likewise
+module _ (w : Width) (a b : ℤ) (a_fits : FitsSigned w a) (b_fits : FitsSigned w b) where
+  stored_difference : stored w a -ℤ stored w b ≡ a -ℤ b
+  stored_difference = ap₂ (λ u v. u -ℤ v) (to_z-of_z w a a_fits) (to_z-of_z w b b_fits)
+
+  module _ (small : nat_abs (a -ℤ b) < 2 ^ hbits w) where
+    pub difference_fits : FitsSigned w (stored w a -ℤ stored w b)
+    difference_fits = subst (FitsSigned w) (sym stored_difference) (fits_signed_from_abs w (a -ℤ b) small)
+
+    pub difference_again : stored w (stored w a -ℤ stored w b) ≡ a -ℤ b
+    difference_again = to_z-of_z w (stored w a -ℤ stored w b) difference_fits ∙ stored_difference
+
+-- a number of one word is the same in two
+pub fits_wider : (z : ℤ) → FitsSigned w64 z → FitsSigned w128 z
+fits_wider z h = let small = h.sfits in record { sfits = omega arith }
+
+module _ (z : ℤ) (fits : FitsSigned w64 z) where
+  pub wider_fits : FitsSigned w128 (stored w64 z)
+  wider_fits = subst (FitsSigned w128) (sym (to_z-of_z w64 z fits)) (fits_wider z fits)
+
+  pub wider_again : stored w128 (stored w64 z) ≡ z
+  wider_again = to_z-of_z w128 (stored w64 z) wider_fits ∙ to_z-of_z w64 z fits
+
 -- a number of two words whose magnitude is below 2^63 is the same in one word
 pub small_fits : (z : ℤ) (m : ℕ) → FitsSigned w128 z → m ≡ nat_abs (stored w128 z) → m < 2 ^ 63 → FitsSigned w64 (stored w128 z)
 small_fits z m fits is less = fits_signed_from_abs w64 (stored w128 z) (subst (λ n. n < 2 ^ 63) is less)

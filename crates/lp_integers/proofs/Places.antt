@@ -1,9 +1,10 @@
 -- The places at which a list has numbers other than 0, and what is subtracted from numbers there.
-use Rattle.std.proofs.Common.{◌≡◌, ◌≢◌, ◌⊎◌, ℕ, zero, suc, ◌+◌, ◌*◌, ◌<◌, ◌≤◌, inl, inr, ℤ, pos, negsuc, ◌-ℤ◌, ◌*ℤ◌, neg_ℤ, nat_abs, List, [], ◌∷◌, ◌++◌, length, set, get_or, length-set, Some, refl, sym, ap, ◌∙◌, subst, arith}
+use Rattle.std.proofs.Common.{◌≡◌, ◌≢◌, ◌⊎◌, ℕ, zero, suc, ◌+◌, ◌*◌, ◌-◌, ◌<◌, ◌≤◌, ◌^◌, inl, inr, ℤ, pos, negsuc, ◌-ℤ◌, ◌*ℤ◌, neg_ℤ, nat_abs, List, [], ◌∷◌, ◌++◌, length, set, get_or, length-set, Some, refl, sym, ap, ◌∙◌, subst, arith}
 use Rattle.std.specs.Prelude.{slice_get}
 use Rattle.std.proofs.lemmas.Bool.{cases_eq}
 use Rattle.std.proofs.lemmas.Int.{ints}
 use Rattle.std.proofs.lemmas.Option.{slice_get_within, slice_get-get_or}
+use Rattle.gq_number.proofs.Whole.{nat_abs-*ℤ}
 use Rattle.lp_integers.specs.Lines.{whole_at, AreWithin, CombinationsStayWithin, ArePlaces, AreLessenedAt, AreLessenedFrom}
 use Rattle.lp_integers.proofs.Lines.{written_here, written_other}
 
@@ -98,6 +99,13 @@ less_none z = omega (arith, ints)
 
 pub once_less : (n y : ℤ) → n -ℤ y ≡ pos 1 *ℤ n -ℤ y
 once_less n y = ap (λ z. z -ℤ y) (sym (one_times n))
+
+-- the product that is subtracted and the difference stay below 2^63
+pub second_small : (b n x : ℤ) → nat_abs (pos 1) * nat_abs n + nat_abs b * nat_abs x ≤ 2 ^ 63 - 1 → nat_abs (b *ℤ x) < 2 ^ 63
+second_small b n x h = let e = nat_abs-*ℤ b x in omega arith
+
+pub below_half : (n : ℕ) → n ≤ 2 ^ 63 - 1 → n < 2 ^ 63
+below_half n h = omega arith
 
 pub lessened_none : (b : ℤ) (before others : List ℤ) (places : List ℕ) (least : ℕ) → AreWithin before least → AreLessenedAt b before others before places 0 least least
 lessened_none b before others places least within =

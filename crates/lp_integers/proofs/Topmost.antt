@@ -1,6 +1,7 @@
 -- The first place from a start on whose number is above 0, and the one with the greatest number.
-use Rattle.std.proofs.Common.{◌≡◌, ◌⊎◌, ℕ, ◌+◌, ◌<◌, ◌≤◌, inl, inr, ℤ, pos, List, length, Option, Some, None, sym, subst, arith}
+use Rattle.std.proofs.Common.{◌≡◌, ◌⊎◌, ℕ, ◌+◌, ◌<◌, ◌≤◌, inl, inr, true, false, ℤ, pos, List, length, Option, Some, None, sym, subst, arith}
 use Rattle.std.specs.Prelude.{◌<ℤ◌}
+use Rattle.std.specs.Int.Signed.{lt_z}
 use Rattle.std.proofs.lemmas.Bool.{cases_lt}
 use Rattle.std.proofs.lemmas.Int.{ints}
 use Rattle.lp_integers.specs.Lines.{whole_at}
@@ -8,9 +9,19 @@ use Rattle.lp_integers.specs.Words.{IsFirstAbove, IsGreatestAbove}
 use Rattle.lp_integers.proofs.Lines.{whole_past}
 use Rattle.lp_integers.proofs.Picking.{lower, lower_of, not_more, not_above}
 
+-- what a test told
+pub less_told : (a b : ℤ) → lt_z a b ≡ true → a <ℤ b
+less_told a b told = omega (arith, ints)
+
+pub not_less_told : (a b : ℤ) → lt_z a b ≡ false → ¬ (a <ℤ b)
+not_less_told a b told less = omega (arith, ints)
+
 -- no number from the start on below n is above 0
 abbrev pub NoneAbove : List ℤ → ℕ → ℕ → Type 0
 NoneAbove numbers start n = (c : ℕ) → start ≤ c → c < n → ¬ (pos 0 <ℤ whole_at numbers c)
+
+pub none_yet : (numbers : List ℤ) (start : ℕ) → NoneAbove numbers start start
+none_yet numbers start c from less above = omega arith
 
 pub none_more : (numbers : List ℤ) (start n : ℕ) → NoneAbove numbers start n → ¬ (pos 0 <ℤ whole_at numbers n) → NoneAbove numbers start (n + 1)
 none_more numbers start n h here c from less =

@@ -1,6 +1,7 @@
-use Rattle.std.proofs.Common.{rules, ℤ, ◌≡◌, ◌≤◌, ◌<◌, ◌^◌, ◌-◌, ◌-ℤ◌, ◌*ℤ◌, nat_abs, FitsSigned, to_z, of_z, w64, sym, ap, ap₂, ◌∙◌, subst, subst₂, arith}
+use Rattle.std.proofs.Common.{rules, ℤ, ◌≡◌, ◌≤◌, ◌<◌, ◌^◌, ◌-◌, ◌-ℤ◌, ◌*ℤ◌, nat_abs, FitsSigned, to_z, of_z, w64, sym, ap, ap₂, ◌∙◌, subst, subst₂}
 use Rattle.std.proofs.lemmas.Int.{to_z-of_z}
 use Rattle.lp_integers.specs.Words.{HasWordsBound}
+use Rattle.lp_integers.proofs.Places.{below_half}
 use Rattle.lp_integers.proofs.Differences.{Passing, StepsAreSmall, steps_are_small, passing_begins, passing_bound, passing_goes, passing_ends, passing_shrinks}
 use Rattle.lp_integers.proofs.few.differences.Goals as goal
 
@@ -49,11 +50,11 @@ difference-requires c =
     subst₂ (λ u v. HasWordsBound (2 ^ 63 - 1) u v c.args.words.now c.args.others.now) (sym (to_z-of_z w64 c.args.a c.ranges.a)) (sym (to_z-of_z w64 c.args.b c.ranges.b)) c.requires.3 in
     let s : StepsAreSmall a b x y =
     steps_are_small a b x y (passing_bound (2 ^ 63 - 1) c.requires.0 c.args.words.now a b c.args.others.now c.loop-place.left.now c.loop-place.right.now c.loop-place.made.items c.split_place-number.result.1.now c.split_place-other.result.1.now c.in-Some.place x y (c.loop-place.invariant c.requires.0 c.requires.1 c.requires.2) c.in-Some.ensures c.split_place-number.ensures c.split_place-other.ensures within_bound) in
-    let fits_first : FitsSigned w64 c.product-first.result = search rules in
-    let fits_second : FitsSigned w64 c.product-second.result = search rules in
+    let fits_first : FitsSigned w64 c.product-first.result = record { sfits = c.product-first.type_inv } in
+    let fits_second : FitsSigned w64 c.product-second.result = record { sfits = c.product-second.type_inv } in
     let first_is = to_z-of_z w64 c.product-first.result fits_first ∙ c.product-first.ensures ∙ ap (λ z. a *ℤ z) (to_z-of_z w64 x fits_x) in
     let second_is = to_z-of_z w64 c.product-second.result fits_second ∙ c.product-second.ensures ∙ ap (λ z. b *ℤ z) (to_z-of_z w64 y fits_y) in
-    subst₂ (λ u v. nat_abs (u -ℤ v) < 2 ^ 63) (sym first_is) (sym second_is) (let low = s.left in omega arith)
+    subst₂ (λ u v. nat_abs (u -ℤ v) < 2 ^ 63) (sym first_is) (sym second_is) (below_half _ s.left)
 
 pub loop-place-preserved : goal.loop-place-preserved
 loop-place-preserved c =
@@ -67,9 +68,9 @@ loop-place-preserved c =
     subst₂ (λ u v. HasWordsBound (2 ^ 63 - 1) u v c.args.words.now c.args.others.now) (sym (to_z-of_z w64 c.args.a c.ranges.a)) (sym (to_z-of_z w64 c.args.b c.ranges.b)) c.requires.3 in
     let s : StepsAreSmall a b x y =
     steps_are_small a b x y (passing_bound (2 ^ 63 - 1) c.requires.0 c.args.words.now a b c.args.others.now c.loop-place.left.now c.loop-place.right.now c.loop-place.made.items c.split_place-number.result.1.now c.split_place-other.result.1.now c.in-Some.place x y (c.loop-place.invariant c.requires.0 c.requires.1 c.requires.2) c.in-Some.ensures c.split_place-number.ensures c.split_place-other.ensures within_bound) in
-    let fits_first : FitsSigned w64 c.product-first.result = search rules in
-    let fits_second : FitsSigned w64 c.product-second.result = search rules in
-    let fits_left : FitsSigned w64 c.difference.result = search rules in
+    let fits_first : FitsSigned w64 c.product-first.result = record { sfits = c.product-first.type_inv } in
+    let fits_second : FitsSigned w64 c.product-second.result = record { sfits = c.product-second.type_inv } in
+    let fits_left : FitsSigned w64 c.difference.result = record { sfits = c.difference.type_inv } in
     let first_is = to_z-of_z w64 c.product-first.result fits_first ∙ c.product-first.ensures ∙ ap (λ z. a *ℤ z) (to_z-of_z w64 x fits_x) in
     let second_is = to_z-of_z w64 c.product-second.result fits_second ∙ c.product-second.ensures ∙ ap (λ z. b *ℤ z) (to_z-of_z w64 y fits_y) in
     let z : ℤ = to_z w64 (of_z w64 c.difference.result) in

@@ -50,3 +50,15 @@ returns-then-divisor-eq1-clause-greatest c = λ k of_denominator of_all. subst (
 
 pub returns-clause-greatest : goal.returns-clause-greatest
 returns-clause-greatest c = c.loop-word.invariant.3
+
+pub bounds-words-word-index : goal.bounds-words-word-index
+bounds-words-word-index c = c.loop-word-test.true
+
+pub shared_with-divisor-requires : goal.shared_with-divisor-requires
+shared_with-divisor-requires c = c.loop-word.invariant.0
+
+pub returns-clause-positive : goal.returns-clause-positive
+returns-clause-positive c = c.loop-word.invariant.0
+
+pub returns-clause-denominator : goal.returns-clause-denominator
+returns-clause-denominator c = c.loop-word.invariant.1

@@ -32,3 +32,9 @@ bounds-list-word c =
     let inside = told.0 in
     let sized = c.loop-i.invariant.0 in
     omega arith
+
+pub bounds-words-i : goal.bounds-words-i
+bounds-words-i c = c.loop-i-test.true
+
+pub returns-clause-sized : goal.returns-clause-sized
+returns-clause-sized c = c.loop-i.invariant.0

@@ -22,7 +22,7 @@ pub loop-i-preserved : goal.loop-i-preserved
 loop-i-preserved c =
     let w : Word = word_at c.loop-i.words c.loop-i.i in
     let fits : FitsSigned w64 w.number = search rules in
-    let fits_negated : FitsSigned w64 c.difference-number.result = search rules in
+    let fits_negated : FitsSigned w64 c.difference-number.result = record { sfits = c.difference-number.type_inv } in
     matched_more (λ x y. y ≡ neg_ℤ x) c.args.words.now c.loop-i.words c.loop-i.i (to_z w64 (of_z w64 c.difference-number.result)) c.loop-i.invariant (omega arith)
     (to_z-of_z w64 c.difference-number.result fits_negated ∙ c.difference-number.ensures ∙ ap (λ z. pos 0 -ℤ z) (to_z-of_z w64 w.number fits) ∙ negative w.number)
 

@@ -1,6 +1,7 @@
 -- One more number is a word, unless it is 0; past the end of the list each number is 0.
 use Rattle.std.proofs.Common.{rules, ◌≡◌, ◌≤◌, ◌-◌, ◌^◌, ℤ, inl, inr, pos, nat_abs, slice_index_or, FitsSigned, to_z, of_z, w64, sym, ◌∙◌, subst, le_refl, arith}
 use Rattle.std.proofs.lemmas.Int.{to_z-of_z}
+use Rattle.std.proofs.lemmas.Result.{IfOk-from_err}
 use Rattle.std.proofs.lemmas.Bool.{cases_lt, cases_eq}
 use Rattle.lp_integers.specs.Lines.{whole_at}
 use Rattle.lp_integers.specs.Words.{stored_number, AreWords}
@@ -34,3 +35,23 @@ returns-clause-numbers c = λ k.
       | inl less ↦ c.loop-place.invariant.1 k less
       | inr more ↦ whole_past c.args.numbers.now k (omega arith) ∙ sym (number_above c.loop-place.words.items (2 ^ 63 - 1) 0 c.loop-place.place k c.loop-place.invariant.0 more)
     ]
+
+pub returns-in_err-words-clause-words : goal.returns-in_err-words-clause-words
+returns-in_err-words-clause-words c = IfOk-from_err c.from_residual.result _ c.from_residual.ensures.0
+
+pub returns-in_err-words-clause-numbers : goal.returns-in_err-words-clause-numbers
+returns-in_err-words-clause-numbers c = IfOk-from_err c.from_residual.result _ c.from_residual.ensures.0
+
+pub loop-place-init : goal.loop-place-init
+loop-place-init c = (subst (AreWords (2 ^ 63 - 1) 0 0) (sym c.in_ok-words.ensures.items) tt, λ k less. absurd (omega arith))
+
+pub bounds-numbers-place : goal.bounds-numbers-place
+bounds-numbers-place c = c.loop-place-test.true
+
+pub returns-in_err-push_unless_zero-clause-words : goal.returns-in_err-push_unless_zero-clause-words
+returns-in_err-push_unless_zero-clause-words c =
+    IfOk-from_err c.from_residual-in_err-push_unless_zero.result _ c.from_residual-in_err-push_unless_zero.ensures.0
+
+pub returns-in_err-push_unless_zero-clause-numbers : goal.returns-in_err-push_unless_zero-clause-numbers
+returns-in_err-push_unless_zero-clause-numbers c =
+    IfOk-from_err c.from_residual-in_err-push_unless_zero.result _ c.from_residual-in_err-push_unless_zero.ensures.0

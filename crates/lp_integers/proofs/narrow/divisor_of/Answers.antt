@@ -51,3 +51,15 @@ returns-then-divisor-eq1-clause-greatest c = λ k of_denominator of_all. subst (
 
 pub returns-clause-greatest : goal.returns-clause-greatest
 returns-clause-greatest c = c.loop-n.invariant.3
+
+pub bounds-numbers-n-index : goal.bounds-numbers-n-index
+bounds-numbers-n-index c = c.loop-n-test.true
+
+pub shared_with-divisor-requires : goal.shared_with-divisor-requires
+shared_with-divisor-requires c = c.loop-n.invariant.0
+
+pub returns-clause-positive : goal.returns-clause-positive
+returns-clause-positive c = c.loop-n.invariant.0
+
+pub returns-clause-denominator : goal.returns-clause-denominator
+returns-clause-denominator c = c.loop-n.invariant.1

@@ -1,5 +1,5 @@
 -- One more number is lessened: the steps stay within narrow, and the result is bounded.
-use Rattle.std.proofs.Common.{rules, ◌*◌, ◌+◌, ◌-◌, ◌^◌, ◌≤◌, ℤ, pos, nat_abs, ◌≡◌, ◌-ℤ◌, ◌*ℤ◌, slice_index_or, FitsSigned, w64, sym, ap, ◌∙◌, subst, subst₂, le_refl, arith}
+use Rattle.std.proofs.Common.{rules, ◌<◌, ◌*◌, ◌+◌, ◌-◌, ◌^◌, ◌≤◌, ℤ, pos, nat_abs, ◌≡◌, ◌-ℤ◌, ◌*ℤ◌, slice_index_or, FitsSigned, w64, sym, ap, ◌∙◌, subst, subst₂, le_refl, arith}
 use Rattle.std.proofs.lemmas.Int.{to_z-of_z}
 use Rattle.lp_integers.specs.Lines.{AreLessenedTo}
 use Rattle.lp_integers.proofs.Lines.{stored, first_below, second_below, left_below, left_is, greater_within, lessened_more, lessened_all}
@@ -32,8 +32,8 @@ difference-left-requires c =
     let other : ℤ = slice_index_or c.args.others.now c.loop-c.c (pos 0) in
     let fits_number : FitsSigned w64 number = search rules in
     let fits_other : FitsSigned w64 other = search rules in
-    let fits_first : FitsSigned w64 c.product-first.result = search rules in
-    let fits_second : FitsSigned w64 c.product-second.result = search rules in
+    let fits_first : FitsSigned w64 c.product-first.result = record { sfits = c.product-first.type_inv } in
+    let fits_second : FitsSigned w64 c.product-second.result = record { sfits = c.product-second.type_inv } in
     let before = c.loop-c.invariant.left c.loop-c.c (le_refl c.loop-c.c) in
     let within : nat_abs c.args.a * nat_abs number + nat_abs c.args.b * nat_abs other ≤ 2 ^ 63 - 1 =
     subst (λ z. nat_abs c.args.a * nat_abs z + nat_abs c.args.b * nat_abs other ≤ 2 ^ 63 - 1) (sym before) (c.requires.within_bound c.loop-c.c) in
@@ -49,9 +49,9 @@ loop-c-preserved c =
     let n : ℤ = slice_index_or c.args.numbers.now c.loop-c.c (pos 0) in
     let fits_number : FitsSigned w64 number = search rules in
     let fits_other : FitsSigned w64 other = search rules in
-    let fits_first : FitsSigned w64 c.product-first.result = search rules in
-    let fits_second : FitsSigned w64 c.product-second.result = search rules in
-    let fits_left : FitsSigned w64 c.difference-left.result = search rules in
+    let fits_first : FitsSigned w64 c.product-first.result = record { sfits = c.product-first.type_inv } in
+    let fits_second : FitsSigned w64 c.product-second.result = record { sfits = c.product-second.type_inv } in
+    let fits_left : FitsSigned w64 c.difference-left.result = record { sfits = c.difference-left.type_inv } in
     let before : number ≡ n = c.loop-c.invariant.left c.loop-c.c (le_refl c.loop-c.c) in
     let within : nat_abs c.args.a * nat_abs number + nat_abs c.args.b * nat_abs other ≤ 2 ^ 63 - 1 =
     subst (λ z. nat_abs c.args.a * nat_abs z + nat_abs c.args.b * nat_abs other ≤ 2 ^ 63 - 1) (sym before) (c.requires.within_bound c.loop-c.c) in
@@ -67,3 +67,9 @@ returns c =
     let b_is = to_z-of_z w64 c.args.b c.ranges.b in
     lessened_all c.args.a c.args.b c.args.numbers.now c.args.others.now c.loop-c.numbers c.loop-c.c c.loop-c.most (omega arith)
     (subst₂ (λ x y. AreLessenedTo x y c.args.numbers.now c.args.others.now c.loop-c.numbers c.loop-c.c c.loop-c.most) a_is b_is c.loop-c.invariant)
+
+pub bounds-numbers-c : goal.bounds-numbers-c
+bounds-numbers-c c = subst (λ n. c.loop-c.c < n) (sym c.loop-c.auto.numbers) c.loop-c-test.true
+
+pub bounds-others-c : goal.bounds-others-c
+bounds-others-c c = subst (λ n. c.loop-c.c < n) (sym c.requires.sized) c.loop-c-test.true

@@ -1,4 +1,4 @@
-use Rattle.std.proofs.Common.{rules, nat_abs, ◌≡◌, ◌-ℤ◌, ◌*ℤ◌, ◌<◌, ◌^◌, FitsSigned, to_z, of_z, sym, ap₂, ◌∙◌, subst₂}
+use Rattle.std.proofs.Common.{nat_abs, ◌≡◌, ◌-ℤ◌, ◌*ℤ◌, ◌<◌, ◌^◌, FitsSigned, to_z, of_z, sym, ap₂, ◌∙◌, subst₂}
 use Rattle.std.specs.Int.{w128}
 use Rattle.std.proofs.lemmas.Int.{to_z-of_z}
 use Rattle.lp_integers.proofs.Lines.{steps_have_bound}
@@ -14,8 +14,8 @@ product-second-requires c =
 
 pub difference-requires : goal.difference-requires
 difference-requires c =
-    let fits_first : FitsSigned w128 c.product-first.result = search rules in
-    let fits_second : FitsSigned w128 c.product-second.result = search rules in
+    let fits_first : FitsSigned w128 c.product-first.result = record { sfits = c.product-first.type_inv } in
+    let fits_second : FitsSigned w128 c.product-second.result = record { sfits = c.product-second.type_inv } in
     let first : to_z w128 (of_z w128 c.product-first.result) ≡ c.args.a *ℤ c.args.n =
     to_z-of_z w128 c.product-first.result fits_first ∙ c.product-first.ensures ∙ ap₂ (λ x y. x *ℤ y) (to_z-of_z w128 c.args.a c.ranges.a) (to_z-of_z w128 c.args.n c.ranges.n) in
     let second : to_z w128 (of_z w128 c.product-second.result) ≡ c.args.b *ℤ c.args.x =
@@ -24,11 +24,11 @@ difference-requires c =
 
 pub returns : goal.returns
 returns c =
-    let fits_first : FitsSigned w128 c.product-first.result = search rules in
-    let fits_second : FitsSigned w128 c.product-second.result = search rules in
+    let fits_first : FitsSigned w128 c.product-first.result = record { sfits = c.product-first.type_inv } in
+    let fits_second : FitsSigned w128 c.product-second.result = record { sfits = c.product-second.type_inv } in
     let first : to_z w128 (of_z w128 c.product-first.result) ≡ c.args.a *ℤ c.args.n =
     to_z-of_z w128 c.product-first.result fits_first ∙ c.product-first.ensures ∙ ap₂ (λ x y. x *ℤ y) (to_z-of_z w128 c.args.a c.ranges.a) (to_z-of_z w128 c.args.n c.ranges.n) in
     let second : to_z w128 (of_z w128 c.product-second.result) ≡ c.args.b *ℤ c.args.x =
     to_z-of_z w128 c.product-second.result fits_second ∙ c.product-second.ensures ∙ ap₂ (λ x y. x *ℤ y) (to_z-of_z w128 c.args.b c.ranges.b) (to_z-of_z w128 c.args.x c.ranges.x) in
-    let fits : FitsSigned w128 c.difference.result = search rules in
+    let fits : FitsSigned w128 c.difference.result = record { sfits = c.difference.type_inv } in
     to_z-of_z w128 c.difference.result fits ∙ c.difference.ensures ∙ ap₂ (λ x y. x -ℤ y) first second

@@ -16,7 +16,7 @@ pub loop-c-preserved : goal.loop-c-preserved
 loop-c-preserved c =
     let number : ℤ = slice_index_or c.loop-c.numbers c.loop-c.c (pos 0) in
     let fits : FitsSigned w128 number = search rules in
-    let fits_over : FitsSigned w128 c.quotient-over.result = search rules in
+    let fits_over : FitsSigned w128 c.quotient-over.result = record { sfits = c.quotient-over.type_inv } in
     let before = c.loop-c.invariant.left c.loop-c.c (le_refl c.loop-c.c) in
     divided_more c.args.divisor c.args.numbers.now c.loop-c.numbers c.loop-c.c (to_z w128 (of_z w128 c.quotient-over.result)) c.loop-c.invariant (omega arith)
     (ap (λ z. z *ℤ pos c.args.divisor) (to_z-of_z w128 c.quotient-over.result fits_over) ∙ c.quotient-over.ensures ∙ to_z-of_z w128 number fits ∙ before)

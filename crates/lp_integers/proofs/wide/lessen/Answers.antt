@@ -1,5 +1,5 @@
 -- One more number is lessened: the steps stay within wide, and the result is bounded.
-use Rattle.std.proofs.Common.{rules, ◌*◌, ◌+◌, ◌-◌, ◌^◌, ◌≤◌, ℤ, pos, nat_abs, ◌≡◌, ◌-ℤ◌, ◌*ℤ◌, slice_index_or, FitsSigned, sym, ap, ◌∙◌, subst, subst₂, le_refl, arith}
+use Rattle.std.proofs.Common.{rules, ◌<◌, ◌*◌, ◌+◌, ◌-◌, ◌^◌, ◌≤◌, ℤ, pos, nat_abs, ◌≡◌, ◌-ℤ◌, ◌*ℤ◌, slice_index_or, FitsSigned, sym, ap, ◌∙◌, subst, subst₂, le_refl, arith}
 use Rattle.std.specs.Int.{w128}
 use Rattle.std.proofs.lemmas.Int.{to_z-of_z}
 use Rattle.lp_integers.specs.Lines.{AreLessenedTo}
@@ -33,8 +33,8 @@ difference-left-requires c =
     let other : ℤ = slice_index_or c.args.others.now c.loop-c.c (pos 0) in
     let fits_number : FitsSigned w128 number = search rules in
     let fits_other : FitsSigned w128 other = search rules in
-    let fits_first : FitsSigned w128 c.product-first.result = search rules in
-    let fits_second : FitsSigned w128 c.product-second.result = search rules in
+    let fits_first : FitsSigned w128 c.product-first.result = record { sfits = c.product-first.type_inv } in
+    let fits_second : FitsSigned w128 c.product-second.result = record { sfits = c.product-second.type_inv } in
     let before = c.loop-c.invariant.left c.loop-c.c (le_refl c.loop-c.c) in
     let within : nat_abs c.args.a * nat_abs number + nat_abs c.args.b * nat_abs other ≤ 2 ^ 127 - 1 =
     subst (λ z. nat_abs c.args.a * nat_abs z + nat_abs c.args.b * nat_abs other ≤ 2 ^ 127 - 1) (sym before) (c.requires.within_bound c.loop-c.c) in
@@ -50,9 +50,9 @@ loop-c-preserved c =
     let n : ℤ = slice_index_or c.args.numbers.now c.loop-c.c (pos 0) in
     let fits_number : FitsSigned w128 number = search rules in
     let fits_other : FitsSigned w128 other = search rules in
-    let fits_first : FitsSigned w128 c.product-first.result = search rules in
-    let fits_second : FitsSigned w128 c.product-second.result = search rules in
-    let fits_left : FitsSigned w128 c.difference-left.result = search rules in
+    let fits_first : FitsSigned w128 c.product-first.result = record { sfits = c.product-first.type_inv } in
+    let fits_second : FitsSigned w128 c.product-second.result = record { sfits = c.product-second.type_inv } in
+    let fits_left : FitsSigned w128 c.difference-left.result = record { sfits = c.difference-left.type_inv } in
     let before : number ≡ n = c.loop-c.invariant.left c.loop-c.c (le_refl c.loop-c.c) in
     let within : nat_abs c.args.a * nat_abs number + nat_abs c.args.b * nat_abs other ≤ 2 ^ 127 - 1 =
     subst (λ z. nat_abs c.args.a * nat_abs z + nat_abs c.args.b * nat_abs other ≤ 2 ^ 127 - 1) (sym before) (c.requires.within_bound c.loop-c.c) in
@@ -68,3 +68,9 @@ returns c =
     let b_is = to_z-of_z w128 c.args.b c.ranges.b in
     lessened_all c.args.a c.args.b c.args.numbers.now c.args.others.now c.loop-c.numbers c.loop-c.c c.loop-c.most (omega arith)
     (subst₂ (λ x y. AreLessenedTo x y c.args.numbers.now c.args.others.now c.loop-c.numbers c.loop-c.c c.loop-c.most) a_is b_is c.loop-c.invariant)
+
+pub bounds-numbers-c : goal.bounds-numbers-c
+bounds-numbers-c c = subst (λ n. c.loop-c.c < n) (sym c.loop-c.auto.numbers) c.loop-c-test.true
+
+pub bounds-others-c : goal.bounds-others-c
+bounds-others-c c = subst (λ n. c.loop-c.c < n) (sym c.requires.sized) c.loop-c-test.true

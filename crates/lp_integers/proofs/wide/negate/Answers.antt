@@ -19,7 +19,7 @@ pub loop-c-preserved : goal.loop-c-preserved
 loop-c-preserved c =
     let number : ℤ = slice_index_or c.loop-c.numbers c.loop-c.c (pos 0) in
     let fits : FitsSigned w128 number = search rules in
-    let fits_negated : FitsSigned w128 c.difference-negated.result = search rules in
+    let fits_negated : FitsSigned w128 c.difference-negated.result = record { sfits = c.difference-negated.type_inv } in
     let before = c.loop-c.invariant.left c.loop-c.c (le_refl c.loop-c.c) in
     negated_more c.args.numbers.now c.loop-c.numbers c.loop-c.c (to_z w128 (of_z w128 c.difference-negated.result)) c.loop-c.invariant (omega arith)
     (to_z-of_z w128 c.difference-negated.result fits_negated ∙ c.difference-negated.ensures ∙ ap (λ z. pos 0 -ℤ z) (to_z-of_z w128 number fits ∙ before) ∙ negative (whole_at c.args.numbers.now c.loop-c.c))

@@ -3,6 +3,7 @@ use Rattle.std.proofs.Common.{rules, ℤ, pos, ◌≡◌, ◌∷◌, ◌++◌, [
 use Rattle.std.specs.Int.{w128}
 use Rattle.std.proofs.lemmas.Int.{to_z-of_z}
 use Rattle.std.proofs.lemmas.List.{take_more, take_all}
+use Rattle.std.proofs.lemmas.Result.{IfOk-from_err}
 use Rattle.lp_integers.proofs.wide.widened.Goals as goal
 
 pub loop-n-preserved : goal.loop-n-preserved
@@ -15,3 +16,15 @@ loop-n-preserved c =
 
 pub returns : goal.returns
 returns c = c.loop-n.invariant ∙ take_all c.loop-n.n-index c.args.numbers.now c.loop-n-test.false
+
+pub returns-in_err-list : goal.returns-in_err-list
+returns-in_err-list c = IfOk-from_err c.from_residual.result _ c.from_residual.ensures.0
+
+pub loop-n-init : goal.loop-n-init
+loop-n-init c = c.in_ok-list.ensures.items
+
+pub bounds-numbers-n-index : goal.bounds-numbers-n-index
+bounds-numbers-n-index c = c.loop-n-test.true
+
+pub returns-in_err-push : goal.returns-in_err-push
+returns-in_err-push c = IfOk-from_err c.from_residual-in_err-push.result _ c.from_residual-in_err-push.ensures.0

@@ -30,3 +30,9 @@ returns c =
       sized = spread_length c.self.inside.len c.divide.new.words ∙ sym (spread_length c.self.inside.len c.self.inside.words.items);
       numbers = matched_spread (λ (x y : ℤ). y *ℤ pos c.args.divisor ≡ x) c.self.inside.len c.self.inside.words.items c.divide.new.words (2 ^ 63 - 1) (2 ^ 63 - 1) c.self.invariant after matched (none_over c.args.divisor);
     }))
+
+pub divide-requires-clause-positive : goal.divide-requires-clause-positive
+divide-requires-clause-positive c = c.requires.positive
+
+pub divide-requires-clause-small : goal.divide-requires-clause-small
+divide-requires-clause-small c = c.requires.small

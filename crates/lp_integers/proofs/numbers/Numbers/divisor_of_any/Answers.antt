@@ -1,4 +1,4 @@
-use Rattle.std.proofs.Common.{rules, ◌≡◌, ℕ, ◌<◌, nat_abs, FitsSigned, inl, inr, sym, ap, ◌∙◌, subst, below_more, arith}
+use Rattle.std.proofs.Common.{◌≡◌, ℕ, ◌<◌, nat_abs, FitsSigned, inl, inr, sym, ap, ◌∙◌, subst, below_more, arith}
 use Rattle.std.specs.Int.{◌∣◌, w128}
 use Rattle.std.proofs.Math.Nat.{one-dvd, dvd_trans, dvd-zero}
 use Rattle.std.proofs.lemmas.Int.{to_z-of_z}
@@ -17,7 +17,7 @@ returns-then-divisor-eq1-clause-numbers c = λ v. one-dvd (nat_abs (whole_at c.a
 pub loop-place-preserved : goal.loop-place-preserved
 loop-place-preserved c =
     let m : ℕ = c.unsigned_abs.result in
-    let fits : FitsSigned w128 c.at.result = search rules in
+    let fits : FitsSigned w128 c.at.result = record { sfits = c.at.type_inv } in
     let m_is : m ≡ nat_abs (whole_at c.args.self.now c.loop-place.place) = c.unsigned_abs.ensures.value ∙ ap nat_abs (to_z-of_z w128 c.at.result fits ∙ c.at.ensures) in
     let is = c.gcd-divisor.ensures in
     let old = c.loop-place.invariant in (
@@ -40,3 +40,12 @@ returns-then-divisor-eq1-clause-greatest c = λ k of_denominator of_all. subst (
 
 pub returns-clause-greatest : goal.returns-clause-greatest
 returns-clause-greatest c = c.loop-place.invariant.3
+
+pub at-requires : goal.at-requires
+at-requires c = subst (λ n. c.loop-place.place < n) c.len-place-end.ensures c.loop-place-test.true
+
+pub returns-clause-positive : goal.returns-clause-positive
+returns-clause-positive c = c.loop-place.invariant.0
+
+pub returns-clause-denominator : goal.returns-clause-denominator
+returns-clause-denominator c = c.loop-place.invariant.1
