@@ -55,7 +55,7 @@ stops f xs i least total x l is goes none = ap (λ r. go_on r (flat_map f (drop 
 pub goes : {X : Type 0} (f : X → List ℕ) (xs : List X) (i least next : ℕ) (total : Option ℕ) (x : X) → i < length xs → x ≡ get_or xs i x → least_after least (flat_map f (drop i xs)) ≡ total → Some next ≡ least_after least (f x) → least_after next (flat_map f (drop (i + 1) xs)) ≡ total
 goes f xs i least next total x l is so some = ap (λ r. go_on r (flat_map f (drop (i + 1) xs))) some ∙ sym (least-step f xs i least x l is) ∙ so
 
-drop_end : {X : Type 0} (xs : List X) (i : ℕ) → length xs ≤ i → drop i xs ≡ []
+pub drop_end : {X : Type 0} (xs : List X) (i : ℕ) → length xs ≤ i → drop i xs ≡ []
 drop_end [] zero l = refl
 drop_end [] (suc i) l = refl
 drop_end (x ∷ xs) zero l = absurd (omega arith)

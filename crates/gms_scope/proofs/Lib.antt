@@ -6,3 +6,4 @@ mod Listed
 mod Ascents
 mod Assigned
 mod BodyDepths
+mod Begins

@@ -4,3 +4,5 @@ pub mod Lines
 pub mod Members
 pub mod Ordered
 pub mod Spans
+pub mod Steps
+pub mod Turns

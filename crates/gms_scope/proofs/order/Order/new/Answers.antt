@@ -1,15 +1,20 @@
-use Rattle.std.proofs.Common.{◌≡◌, ◌<◌, ℕ, zero, suc, List, [], length, replicate, ap, sym, ◌∙◌, refl, subst, arith}
+-- The first places are zeros, one for each name, and there is no node.
+use Rattle.std.proofs.Common.{◌≡◌, ◌<◌, ◌∷◌, ◌++◌, List, [], length, ap, sym, ◌∙◌, subst, arith}
 use Rattle.std.specs.Prelude.{slice_index_or}
-use Rattle.std.proofs.lemmas.List.{length-replicate}
+use Rattle.std.proofs.lemmas.List.{length-replicate, replicate_more}
 use Rattle.gms_scope.specs.declared.order.Node.{Node}
 use Rattle.gms_scope.specs.Order.{names_of_nodes, order_of}
+use Rattle.gms_scope.proofs.Begins.{no_value, zeros}
 use Rattle.gms_scope.proofs.order.Order.new.Goals as goal
 
--- no place of zeros has another number
-zeros : (n place : ℕ) → slice_index_or (replicate n zero) place zero ≡ zero
-zeros zero place = refl
-zeros (suc n) zero = refl
-zeros (suc n) (suc place) = zeros n place
+pub loop-init : goal.loop-init
+loop-init c = c.new-first.ensures.items
+
+pub returns-in_err-push : goal.returns-in_err-push
+returns-in_err-push c = no_value c.from_residual.result _ c.from_residual.ensures.0
+
+pub loop-preserved : goal.loop-preserved
+loop-preserved c = c.in_ok-push.ensures.items ∙ ap (λ places. places ++ 0 ∷ []) c.loop.invariant ∙ replicate_more c.loop.counter 0
 
 pub returns : goal.returns
 returns c =

@@ -1,7 +1,8 @@
-use Rattle.std.proofs.Common.{◌≡◌, ◌-◌, ◌+◌, ◌++◌, ◌∙◌, sym, ap, length, remove, arith}
+use Rattle.std.proofs.Common.{◌≡◌, ◌-◌, ◌+◌, ◌<◌, ◌++◌, ◌∙◌, sym, ap, subst, length, remove, arith}
 use Rattle.gms_tuple.specs.declared.tree.Fork.{Fork}
 use Rattle.gms_tuple.specs.InnerTrees.{listed}
-use Rattle.gms_tuple.proofs.Forks.{remove-left, remove-own, remove-right, length-removed}
+use Rattle.gms_tuple.proofs.Steps.{none_below, fewer-part, two_fit, part_bound}
+use Rattle.gms_tuple.proofs.Forks.{length-block, remove-left, remove-own, remove-right, length-removed}
 use Rattle.gms_tuple.proofs.tree.Tree.+remove.Goals as goal
 use Rattle.gms_tuple.proofs.tree.Tree.+remove.Goals.{then-place-before, else-place-before+then-place-upto, else-place-before+else-place-upto}
 
@@ -61,3 +62,24 @@ returns t c =
     ]
     in
     c.made.ensures ∙ rest ∙ ap (λ xs. remove xs c.args.place) is
+
+pub unreachable-requires : goal.unreachable-requires
+unreachable-requires t c = none_below c.args.place (length c.args.self.now) c.requires.place (ap length (c.in_default.ensures.tuples ∙ c.take.ensures.all))
+
+pub overflow_add-upto : goal.overflow_add-upto
+overflow_add-upto t c =
+    let f = c.in-Fork.fork.value in
+    let is : listed f ≡ c.args.self.now = c.in-Fork.ensures.tuples ∙ c.take.ensures.all in
+    let left = c.len-before.ensures ∙ ap (λ (g : Fork). length g.left) c.deref.ensures in
+    let own = c.len.ensures ∙ c.deref-2.result.now.own.ok.0 ∙ ap (λ (g : Fork). length g.own.items) c.deref-2.ensures in
+    two_fit (length c.args.self.now) (length f.left) (length f.own.items) (length f.right) (ap length (sym is) ∙ length-block f.left f.own.items f.right) c.len-before.result c.len.result c.requires.within_bound left own
+
+pub remove-requires : goal.remove-requires
+remove-requires t c =
+    let f = c.in-Fork.fork.value in
+    let is : listed f ≡ c.args.self.now = c.in-Fork.ensures.tuples ∙ c.take.ensures.all in
+    let whole = ap length (sym is) ∙ length-block f.left f.own.items f.right in
+    let left = ap (λ (g : Fork). length g.left) c.deref_mut.ensures.value in (
+      fewer-part t (length c.args.self.now) (length c.deref_mut.result.now.left) (length f.left) (length f.own.items) (length f.right) c.decreases whole c.in-Fork.ensures.counted.1 left,
+      (subst (λ n. c.args.place < n) (c.len-before.ensures ∙ ap (λ (g : Fork). length g.left) c.deref.ensures ∙ sym left) c.if-place-before.true, part_bound (length c.args.self.now) (length f.left) (length f.own.items) (length f.right) whole (length c.deref_mut.result.now.left) c.requires.within_bound left),
+    )
