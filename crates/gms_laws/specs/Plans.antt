@@ -1,7 +1,8 @@
 -- What a planner asks with a solve, and what an answer states (GAMS User's Guide, "Equations",
 -- "Model and Solve Statements"; Chvatal, "Linear Programming", chapters 1, 5 and 9). What is stated
 -- speaks of plans, equations and bounds, in the values that the language gives to expressions, and
--- not of rows, matrices, duals or rays.
+-- not of matrices, duals or rays; rows only decide which elements are `listed`. Variables are
+-- continuous, and `limit` bounds the numerators and denominators of data.
 use Rattle.std.specs.Prelude.{◌≡◌, ℕ, Bool, true, false, List, [], map, Ok}
 use Rattle.std.specs.List.{All}
 use Rattle.gq_number.specs.Number.{Number}
@@ -24,7 +25,7 @@ abbrev pub Plan : Type 0
 Plan = Key → Number
 
 -- The question of a solve: which plans satisfy the equations of a model, with the data of a state,
--- and which of them has the best objective.
+-- and which of them has the best number for the objective variable.
 pub record Question (F : Type 0) : Type 0 where
   -- all statements of the program, which define the model's equations
   pub statements : List (Stmt F)
@@ -36,8 +37,9 @@ pub record Question (F : Type 0) : Type 0 where
   pub objective : ℕ
   -- whether the objective is maximized; otherwise it is minimized
   pub maximize : Bool
-  -- the elements that the solve lists, in order: each element of a variable that occurs in a row of
-  -- the model, and the objective
+  -- the elements whose bounds the solve keeps, in order: the objective, and each element of a
+  -- variable that has a coefficient other than 0 in a row of the model, that is, in an equation at
+  -- one tuple; they are the columns of the solve's linear program (`question_of` of `Moments.antt`)
   pub listed : List Key
 
 -- the first outcome is better than the second: greater if the objective is maximized (true),
@@ -52,16 +54,15 @@ module _ {F : Type 0} (number_of : F → Number) (limit : ℕ) (question : Quest
   -- A plan satisfies an equation: at each tuple of labels of the equation's sets for which its
   -- condition holds, both sides are numbers, and the left one compares with the right one as `=e=`,
   -- `=l=` or `=g=` says (`=n=`: any two numbers do). A condition whose computation ends in a fault
-  -- does not hold. Variables are read in the plan; data, and attributes such as `.l`, in the state
-  -- of the solve. A part without variables is data, computed within `limit`; sums and products with
-  -- variables have no limit.
+  -- does not hold; a solve of such a model gets no answer, but an execution error. Variables are
+  -- read in the plan; data, and attributes such as `.l`, in the state of the solve. A part without
+  -- variables is data, computed within `limit`; sums and products with variables have no limit.
   abbrev pub Satisfies : Plan → Definition F → Type 0
   Satisfies plan equation = (tuple : List ℕ) → has (elements question.state (sets_of_definition equation)) tuple ≡ true →
       holds_for number_of limit question.state (bound_to equation tuple) equation.condition ≡ Ok true → SidesCompare number_of limit question.state plan equation (bound_to equation tuple)
 
-  -- A plan, which gives each element of a variable a number, is feasible: it satisfies each
-  -- equation of the model, and each element in `listed` (the elements in rows of the model, and the
-  -- objective) is within its bounds.
+  -- A plan is feasible if it satisfies each equation of the model, and if its number for each
+  -- element in `listed` is within the element's bounds.
   pub record IsFeasible (plan : Plan) : Type 0 where
     pub equations : All (Satisfies plan) (definitions_of_model question.statements question.model)
     pub bounds : KeepsBoundsOf question.state plan question.listed
@@ -70,17 +71,16 @@ module _ {F : Type 0} (number_of : F → Number) (limit : ℕ) (question : Quest
   abbrev pub plan_outcome : Plan → Number
   plan_outcome plan = plan (record { symbol = question.objective; tuple = [] })
 
-  -- A plan is optimal: it is feasible, and no feasible plan has a better outcome. The outcome is
-  -- the number for the objective variable; a greater one is better when maximizing, else a less
-  -- one.
+  -- A plan is optimal if it is feasible, and no feasible plan has a better outcome.
   pub record IsOptimal (plan : Plan) : Type 0 where
     pub feasible : IsFeasible plan
     pub best : (other : Plan) → IsFeasible other → IsBetter question.maximize (plan_outcome other) (plan_outcome plan) → ⊥
 
   -- ---- what an answer says
 
-  -- These levels of the listed elements have the property: some plan has them there, and each plan
-  -- that has them there has the property, whatever its levels elsewhere.
+  -- `Holds` is true of these levels of the listed elements, one for each element in order: some
+  -- plan has these levels, and `Holds` is true of each plan that has them, whatever its numbers for
+  -- other elements are.
   pub record AreLevels (Holds : Plan → Type 0) (levels : List Number) : Type 0 where
     pub some : (plan : Plan) × (map plan question.listed ≡ levels)
     pub each : (plan : Plan) → map plan question.listed ≡ levels → Holds plan
@@ -88,7 +88,7 @@ module _ {F : Type 0} (number_of : F → Number) (limit : ℕ) (question : Quest
   -- What an answer states of plans; its other fields (levels of rows, duals, reduced costs, a
   -- column with crossed bounds, a ray) are its certificate. Optimal: its levels are optimal.
   -- Infeasible: no plan is feasible. Unbounded: its levels are feasible, and for each number some
-  -- feasible plan has a better objective. Interrupted (at the limit of the number of pivots) in
+  -- feasible plan has a better outcome. Interrupted (at the limit of the number of pivots) in
   -- phase 2 of the simplex method: its levels are feasible. Interrupted in phase 1, or Refused (a
   -- number was too large to compute with): nothing.
   abbrev pub IsSo : End Number → Type 0

@@ -1,11 +1,13 @@
 -- Begin here: what `run` promises of a FILE, from the text of a source to the text of its listing
--- (GAMS User's Guide, "GAMS Programs" and "GAMS Output"). The clause `headline` of `run` says:
--- where the arguments are a FILE alone (`file_alone`), and the run ends with a status that has a
--- listing (`HasListing`), what is outside before the run and after it is as `WritesListing` says.
--- Restarts, saves, ranges (how far right sides and costs may move) and generated models
--- (`--generate`) are additions to it, in the modules after this one. Texts and names are lists of
--- bytes. Numbers are exact fractions; `frac_limit` bounds their numerators and denominators, and
--- `frac_value` is the number that a stored fraction means.
+-- (GAMS User's Guide, "GAMS Programs" and "GAMS Output"). The clause `headline` of the function
+-- `run` says: where the arguments are a FILE alone (`file_alone`), and the run ends with a status
+-- that has a listing (`HasListing`), what is outside before the run and after it is as
+-- `WritesListing` says. Restarts, saves, ranges (how far right sides and costs may move) and
+-- generated models (`--generate`) are additions to it, in the modules after this one. Texts and
+-- names are lists of bytes. Numbers are exact fractions; `frac_limit` bounds their numerators and
+-- denominators, and `frac_value` is the number that a stored fraction means. A listing shows the
+-- levels of an answer rounded to three decimals; the certificate of the answer, its lines after
+-- PROOF, shows them exactly.
 use Rattle.std.specs.Prelude.{◌≡◌, ◌≢◌, ℕ, ◌⊎◌, false, List, [], length, None}
 use Rattle.gq_frac.specs.declared.frac.Frac.{Frac}
 use Rattle.gq_frac.specs.Frac.{frac_value, frac_limit}
@@ -31,7 +33,7 @@ use Rattle.gms_run.specs.Statuses.{IsFileOf, with_source_read, with_file}
 
 -- The run of a program: its statements in order, from the state that its declarations give. Each
 -- solve takes the next of the answers that the solvers gave. A `Solving` has the solvers before the
--- run and after it, with their names and pivot rules, and these answers.
+-- run and after it, with their names and pivot rules, and the answers that they gave in between.
 abbrev pub run_of : Program Frac → Solving → Course
 run_of program solving =
     run_from frac_value frac_limit (record { program = program; solvers = solving.before.names }) (loaded frac_value program) (numbers_of solving.answers) program.statements.items
@@ -53,12 +55,16 @@ pub record IsErrorListing (solvers : List (List ℕ)) (source text : List ℕ) :
   pub some : compile_errors frac_value program solvers ≢ []
   pub listing : text ≡ errors_listing 1 source (compile_errors frac_value program solvers)
 
--- The source is a program without compilation errors. Its run takes all answers of `solving`. Each
--- solve has an answer of the linear program that its model means at that moment, with the
--- certificate that proves it (`answered`). What each answer says of plans, that is, of values for
--- the variables, is true (`says_so`; `IsSo` of `gms_laws/specs/Plans.antt` is what it says). With
--- Done every statement was executed, with Execution an execution error stopped the run. `text`, the
--- listing, echoes the source from line 1 and shows the events of the run.
+-- The source is a program without compile errors. Its run takes all answers of `solving`
+-- (`all_taken`) and does not wait for one more (`ends`). Each solve has an answer of the linear
+-- program that its model means at that moment, by pivots that its solver's rule allows; an answer
+-- Optimal, Infeasible or Unbounded has the certificate that proves it (`answered`). What each
+-- answer says of plans, that is, of values for the variables, is true (`says_so`): `IsSo` of
+-- `gms_laws/specs/Plans.antt` holds of it, for the solve's model and objective, and for the state
+-- at the solve. With Done the run reached the end of the program, whatever its answers are; with
+-- Execution an execution error stopped it. `text`, the listing, echoes the source from line 1 and
+-- shows the events of the run, the last of which is the error that stopped it, if any
+-- (`all_events`).
 pub record IsRunListing (status : Status) (solving : Solving) (source text : List ℕ) : Type 0 where
   pub program : Program Frac
   pub is_program : IsProgram frac_limit source frac_value program
@@ -80,8 +86,8 @@ IsListingOf Usage solving source text = ⊥
 IsListingOf ReadFault solving source text = ⊥
 IsListingOf WriteFault solving source text = ⊥
 
--- whether a run with this status surely writes the whole listing; what the output has after a write
--- fault, the clause `run` says
+-- whether each run that ends with this status writes the whole listing; the clause `run` of the
+-- function `run` says what the output has after a write fault
 abbrev pub HasListing : Status → Type 0
 HasListing Done = Unit {0}
 HasListing Compile = Unit {0}
@@ -99,8 +105,10 @@ file_alone file output = record { source = in_file file; output = output; save =
 
 -- The run changes what is outside from `old` to `new`: it reads the file, writes the whole listing
 -- of the source in the file to the output, and closes the output. Then it prints the closing line:
--- the status, the number of answers, and the name of the output. Nothing else changes outside. If
--- the host hides its files, the source may be any bytes (`IsFileOf`).
+-- the status, the number of answers, and the name of the output. Nothing else changes outside. The
+-- host is the part that reads and writes files. If it exposes its files to contracts, the source is
+-- the file's content. If it hides them, as the program's host over real files does, the source is
+-- some bytes, and it is trusted that they are the file's content (`IsFileOf`).
 pub record WritesListing (status : Status) (solving : Solving) (old new : Outside) (file output : List ℕ) : Type 0 where
   pub source : List ℕ
   pub is_source : IsFileOf old file source
