@@ -1,5 +1,5 @@
 //! The table of labels.
-ghost use Rattle.std.specs.Prelude.{◌≡◌, ◌<◌, ◌≤◌, ◌↔◌, ℕ, List, [], length, slice_get, IsSome, IfSome, IsOk, IfOk, OnOk, OnErr, IsErrOf, IsTrue, IsOkUnless, ◌∷◌, ◌++◌};
+ghost use Rattle.std.specs.Prelude.{◌≡◌, ◌<◌, ◌≤◌, ◌↔◌, ℕ, List, [], length, slice_get, IsSome, IfSome, IsOk, IfOk, OnOk, OnErr, IsErrOf, IsOkUnless, ◌∷◌, ◌++◌};
 ghost use Rattle.gms_labels.specs.Labels.{most_label_bytes, most_labels, place_of, entered, IsFullFor, AreLabels};
 
 use crate::fault::LabelFault;
@@ -75,13 +75,6 @@ impl Labels {
         ensures labels { AreLabels self.now }
     {
         self.texts.len() as u32
-    }
-
-    /// Whether there is no label.
-    pub fn is_empty(&self) -> bool
-        ensures { IsTrue result ↔ (self.now ≡ []) }
-    {
-        self.texts.is_empty()
     }
 
     /// The position of `text`, of at most 63 bytes, in the table, from 0, letter case ignored. A

@@ -6,7 +6,7 @@ use std::fmt;
 ///
 /// A column counts bytes; after a tab comes the next column that is one more than a multiple of 8.
 /// In `set i /a/;` the name `i` is at line 1 and column 5, which is shown as `1:5`.
-#[derive(Clone, Copy, Debug, PartialEq, Eq, PartialOrd, Ord, Hash)]
+#[derive(Clone, Copy, Debug, PartialEq, Eq)]
 pub struct Place {
     /// The number of the line in the source, from 1.
     pub line: u32,
