@@ -24,8 +24,9 @@ use Rattle.lp_form.specs.declared.key.Key.{Key}
 abbrev pub Plan : Type 0
 Plan = Key → Number
 
--- The question of a solve: which plans satisfy the equations of a model, with the data of a state,
--- and which of them has the best number for the objective variable.
+-- The question of a solve: which plans are feasible, that is, satisfy the equations of a model and
+-- keep the bounds of the listed elements, with the data of a state; and which feasible plan has the
+-- best number for the objective variable.
 pub record Question (F : Type 0) : Type 0 where
   -- all statements of the program, which define the model's equations
   pub statements : List (Stmt F)
@@ -37,9 +38,10 @@ pub record Question (F : Type 0) : Type 0 where
   pub objective : ℕ
   -- whether the objective is maximized; otherwise it is minimized
   pub maximize : Bool
-  -- the elements whose bounds the solve keeps, in order: the objective, and each element of a
-  -- variable that has a coefficient other than 0 in a row of the model, that is, in an equation at
-  -- one tuple; they are the columns of the solve's linear program (`question_of` of `Moments.antt`)
+  -- the elements whose bounds count. In the question of a solve of a run they are the columns of
+  -- its linear program, in their order (`question_of` of `Moments.antt`): the objective, and each
+  -- element of a variable that has a coefficient other than 0 in a row of the model. A row is an
+  -- equation at one tuple of labels
   pub listed : List Key
 
 -- the first outcome is better than the second: greater if the objective is maximized (true),
@@ -53,10 +55,13 @@ IsBetter false outcome other = outcome <ℚ other
 module _ {F : Type 0} (number_of : F → Number) (limit : ℕ) (question : Question F) where
   -- A plan satisfies an equation: at each tuple of labels of the equation's sets for which its
   -- condition holds, both sides are numbers, and the left one compares with the right one as `=e=`,
-  -- `=l=` or `=g=` says (`=n=`: any two numbers do). A condition whose computation ends in a fault
-  -- does not hold; a solve of such a model gets no answer, but an execution error. Variables are
-  -- read in the plan; data, and attributes such as `.l`, in the state of the solve. A part without
-  -- variables is data, computed within `limit`; sums and products with variables have no limit.
+  -- `=l=` or `=g=` says (`=n=`: any two numbers do). Variables are read in the plan; data, and
+  -- attributes such as `.l`, in the state of the solve. A part without variables is data, computed
+  -- within `limit`; sums and products with variables have no limit. A condition whose computation
+  -- ends in a fault does not hold, and a side with a fault in its data is no number. No answer
+  -- depends on this: a solve with such a condition, or with such a side where the condition holds,
+  -- ends in an execution error (`program` of `IsSolve` in `Moments.antt`: an answered solve has a
+  -- linear program, and no fault).
   abbrev pub Satisfies : Plan → Definition F → Type 0
   Satisfies plan equation = (tuple : List ℕ) → has (elements question.state (sets_of_definition equation)) tuple ≡ true →
       holds_for number_of limit question.state (bound_to equation tuple) equation.condition ≡ Ok true → SidesCompare number_of limit question.state plan equation (bound_to equation tuple)
@@ -78,19 +83,20 @@ module _ {F : Type 0} (number_of : F → Number) (limit : ℕ) (question : Quest
 
   -- ---- what an answer says
 
-  -- `Holds` is true of these levels of the listed elements, one for each element in order: some
-  -- plan has these levels, and `Holds` is true of each plan that has them, whatever its numbers for
-  -- other elements are.
+  -- `levels` has one number for each listed element, in order. Such levels are optimal, or
+  -- feasible, if some plan has them, and each plan that has them is so, whatever its numbers for
+  -- other elements are. `Holds` is the property of a plan: to be optimal, or to be feasible.
   pub record AreLevels (Holds : Plan → Type 0) (levels : List Number) : Type 0 where
     pub some : (plan : Plan) × (map plan question.listed ≡ levels)
     pub each : (plan : Plan) → map plan question.listed ≡ levels → Holds plan
 
-  -- What an answer states of plans; its other fields (levels of rows, duals, reduced costs, a
-  -- column with crossed bounds, a ray) are its certificate. Optimal: its levels are optimal.
-  -- Infeasible: no plan is feasible. Unbounded: its levels are feasible, and for each number some
-  -- feasible plan has a better outcome. Interrupted (at the limit of the number of pivots) in
-  -- phase 2 of the simplex method: its levels are feasible. Interrupted in phase 1, or Refused (a
-  -- number was too large to compute with): nothing.
+  -- What an answer states of plans. Optimal: its levels are optimal. Infeasible: no plan is
+  -- feasible. Unbounded: its levels are feasible, and for each number some feasible plan has a
+  -- better outcome. Interrupted (at the limit of the number of pivots) in phase 2 of the simplex
+  -- method: its levels are feasible. Interrupted in phase 1, or Refused (a number was too large to
+  -- compute with): nothing. The other fields of Optimal, Infeasible and Unbounded (levels of rows,
+  -- duals, reduced costs, a column with crossed bounds, a ray) are the certificate; what they state
+  -- is no statement of plans.
   abbrev pub IsSo : End Number → Type 0
   IsSo (Optimal levels row_levels duals reduced) = AreLevels IsOptimal levels
   IsSo (Infeasible duals crossed) = (plan : Plan) → IsFeasible plan → ⊥

@@ -4,10 +4,10 @@
 -- that has a listing (`HasListing`), what is outside before the run and after it is as
 -- `WritesListing` says. Restarts, saves, ranges (how far right sides and costs may move) and
 -- generated models (`--generate`) are additions to it, in the modules after this one. Texts and
--- names are lists of bytes. Numbers are exact fractions; `frac_limit` bounds their numerators and
--- denominators, and `frac_value` is the number that a stored fraction means. A listing shows the
--- levels of an answer rounded to three decimals; the certificate of the answer, its lines after
--- PROOF, shows them exactly.
+-- names are lists of bytes. Numbers are exact fractions. `frac_limit` bounds the numerators and
+-- denominators of those that the program stores, and `frac_value` is the number that a stored
+-- fraction means. A listing shows the levels of an answer rounded to three decimals; its lines
+-- after PROOF show the exact levels, with the certificate of the answer.
 use Rattle.std.specs.Prelude.{◌≡◌, ◌≢◌, ℕ, ◌⊎◌, false, List, [], length, None}
 use Rattle.gq_frac.specs.declared.frac.Frac.{Frac}
 use Rattle.gq_frac.specs.Frac.{frac_value, frac_limit}
@@ -56,10 +56,12 @@ pub record IsErrorListing (solvers : List (List ℕ)) (source text : List ℕ) :
   pub listing : text ≡ errors_listing 1 source (compile_errors frac_value program solvers)
 
 -- The source is a program without compile errors. Its run takes all answers of `solving`
--- (`all_taken`) and does not wait for one more (`ends`). Each solve has an answer of the linear
--- program that its model means at that moment, by pivots that its solver's rule allows; an answer
--- Optimal, Infeasible or Unbounded has the certificate that proves it (`answered`). What each
--- answer says of plans, that is, of values for the variables, is true (`says_so`): `IsSo` of
+-- (`all_taken`) and does not wait for one more (`ends`). Each solve that the run completes, a solve
+-- event, has an answer of the linear program that its model means at that moment, by pivots that
+-- its solver's rule allows; an answer Optimal, Infeasible or Unbounded has the certificate that
+-- proves it (`answered`). A solve that an execution error stops, such as a fault in the model's
+-- data, is no solve event: it has no answer, and the listing shows the error in its place. What
+-- each answer says of plans, that is, of values for the variables, is true (`says_so`): `IsSo` of
 -- `gms_laws/specs/Plans.antt` holds of it, for the solve's model and objective, and for the state
 -- at the solve. With Done the run reached the end of the program, whatever its answers are; with
 -- Execution an execution error stopped it. `text`, the listing, echoes the source from line 1 and
@@ -106,9 +108,10 @@ file_alone file output = record { source = in_file file; output = output; save =
 -- The run changes what is outside from `old` to `new`: it reads the file, writes the whole listing
 -- of the source in the file to the output, and closes the output. Then it prints the closing line:
 -- the status, the number of answers, and the name of the output. Nothing else changes outside. The
--- host is the part that reads and writes files. If it exposes its files to contracts, the source is
--- the file's content. If it hides them, as the program's host over real files does, the source is
--- some bytes, and it is trusted that they are the file's content (`IsFileOf`).
+-- host is the part that reads and writes files. The program's host works on real files, which no
+-- contract can see: there the source is some bytes, and it is trusted that they are the file's
+-- content, and that the listing reaches the output as it was written. With a host whose files
+-- contracts can see, such as one in memory, the source is the file's content (`IsFileOf`).
 pub record WritesListing (status : Status) (solving : Solving) (old new : Outside) (file output : List ℕ) : Type 0 where
   pub source : List ℕ
   pub is_source : IsFileOf old file source
