@@ -38,3 +38,9 @@ loop-line-preserved g c = record {
 pub returns-clause-rows : goal.returns-clause-rows
 returns-clause-rows g c = λ labels before names keeps are spaced.
     lines_read g.F.ExactField.limit g.F.ExactField.value labels before names (lines_of c.args.lines.now) (lines_of (drop c.loop-line.line-index c.args.lines.now)) c.loop-line.table c.loop-line.entries c.loop-line.headings.items (ap lines_of (drop_all c.loop-line.line-index c.args.lines.now (omega arith))) (c.loop-line.invariant.rows labels before names keeps are spaced)
+
+pub returns-in_err-read_line-clause-extended : goal.returns-in_err-read_line-clause-extended
+returns-in_err-read_line-clause-extended g c = GoesOn-trans c.args.table.now c.loop-line.table c.read_line.new.table c.loop-line.invariant.extended c.in_err-read_line.ensures.extended
+
+pub returns-clause-extended : goal.returns-clause-extended
+returns-clause-extended g c = c.loop-line.invariant.extended

@@ -7,6 +7,7 @@ use Rattle.gms_table.specs.Words.{Word}
 use Rattle.gms_table.specs.InnerShown.{seen_all, AreHeadings}
 use Rattle.gms_table.specs.TableEntries.{name, under}
 use Rattle.gms_table.specs.InnerProgress.{lines_of, Progress, Refuses, Keeps, IsFirstLine}
+use Rattle.gms_table.proofs.LabelLemmas.{GoesOn-trans}
 use Rattle.gms_table.proofs.RowSteps.{Refuses-more}
 use Rattle.gms_table.proofs.TableLemmas.{nothing_read, headings_read, table_refused, table_read}
 use Rattle.gms_table.proofs.tables.table.Goals as goal
@@ -40,3 +41,17 @@ returns-clause-table g c =
     let keeps = c.in_ok-read_rows.ensures.rows c.args.labels.now (map name (seen_all c.in-Some.words.items)) (seen_all c.in-Some.words.items) (headings_read g.F.ExactField.limit g.F.ExactField.value c.args.labels.now c.read_headings.new.table (seen_all c.in-Some.words.items) c.new-entries.result c.new-entries.ensures begun) are first.spaced in
     let made = subst (λ (es : List (Entry _)). Keeps g.F.ExactField.limit g.F.ExactField.value c.args.labels.now (map name (seen_all c.in-Some.words.items) ++ under (seen_all c.in-Some.words.items) (lines_of c.in-Some.rows.now)) c.read_rows.new.table es) (sym c.into_vec.ensures) keeps in
     table_read g.F.ExactField.limit g.F.ExactField.value c.args.lines.now c.args.labels.now c.read_rows.new.table (seen_all c.in-Some.words.items) (lines_of c.in-Some.rows.now) c.into_vec.result.items first made
+
+pub returns-in_err-words-clause-table : goal.returns-in_err-words-clause-table
+returns-in_err-words-clause-table g c =
+    let p = err_from_is_err_and c.from_residual.result c.from_residual.ensures.1 in
+    rw (p.1, p.2) tt
+
+pub returns-in_err-headings-clause-extended : goal.returns-in_err-headings-clause-extended
+returns-in_err-headings-clause-extended g c = c.in_err-headings.ensures.extended
+
+pub returns-in_err-read_rows-clause-extended : goal.returns-in_err-read_rows-clause-extended
+returns-in_err-read_rows-clause-extended g c = GoesOn-trans c.args.labels.now c.read_headings.new.table c.read_rows.new.table c.in_ok-headings.ensures.extended c.in_err-read_rows.ensures.extended
+
+pub returns-clause-extended : goal.returns-clause-extended
+returns-clause-extended g c = GoesOn-trans c.args.labels.now c.read_headings.new.table c.read_rows.new.table c.in_ok-headings.ensures.extended c.in_ok-read_rows.ensures.extended
